@@ -1,0 +1,17 @@
+// Round files, read: the header, the records that borrow their notes from the file's bytes, and a
+// reader that a refusal leaves where it stood.
+//
+// A reader of this crate has to believe how numbers are packed into bytes (specs/Bits), the layout
+// and the questions of a file (specs/Format), and what reading one gives (specs/Reading).
+
+mod bits;
+mod cursors;
+mod headers;
+mod readers;
+mod records;
+
+pub use cursors::Cursor;
+pub use headers::Header;
+pub use readers::Reader;
+pub use records::Note;
+pub use records::Record;
