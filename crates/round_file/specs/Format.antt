@@ -1,7 +1,7 @@
 -- The round file: a header of 6 bytes, then records of 10 bytes, each followed by its note.
 use mathlib.Core.Path.{_≡_}
 use mathlib.Core.List.{List, [], _∷_, _++_}
-use Prim.Native.Nat.{ℕ, _+_, _≤_}
+use Prim.Native.Nat.{ℕ, _+_, _^_, _<_, _≤_}
 use lib.ListN.{length, take, drop}
 use Rattle.ring.specs.Questions.{Question}
 use Rattle.ring.specs.Measures.{ring-questions, pace-questions}
@@ -38,6 +38,18 @@ head-of bs =
 abbrev pub head-bytes : Head → List ℕ
 head-bytes h = octets 6 (packed head-widths (h .version ∷ h .ticks ∷ h .p ∷ h .q ∷ h .count ∷ []))
 
+-- Each field fits its width.
+pub record Head-fits (h : Head) : Type 0 where
+  pub version : h .version < 2 ^ 4
+  pub ticks : h .ticks < 2 ^ 17
+  pub p : h .p < 2 ^ 10
+  pub q : h .q < 2 ^ 10
+  pub count : h .count < 2 ^ 7
+
+-- Every header that is written is read again.
+abbrev pub Heads-exact : Type 0
+Heads-exact = (h : Head) → Head-fits h → head-of (head-bytes h) ≡ h
+
 -- What the header of a file says.
 abbrev pub head-at : List ℕ → Head
 head-at bs = head-of (part bs 0 6)
@@ -69,6 +81,18 @@ abbrev pub fixed-bytes : Fixed → List ℕ
 fixed-bytes f =
     octets 10 (packed fixed-widths (f .number ∷ f .kind ∷ f .from ∷ f .width ∷ f .length ∷ f .note ∷ []))
 
+pub record Fixed-fits (f : Fixed) : Type 0 where
+  pub number : f .number < 2 ^ 20
+  pub kind : f .kind < 2 ^ 2
+  pub from : f .from < 2 ^ 17
+  pub width : f .width < 2 ^ 17
+  pub length : f .length < 2 ^ 16
+  pub note : f .note < 2 ^ 8
+
+-- Every record that is written is read again.
+abbrev pub Records-exact : Type 0
+Records-exact = (f : Fixed) → Fixed-fits f → fixed-of (fixed-bytes f) ≡ f
+
 -- What the record at a place says.
 abbrev pub fixed-at : List ℕ → ℕ → Fixed
 fixed-at bs place = fixed-of (part bs place 10)
@@ -79,6 +103,14 @@ size-at bs place = 10 + fixed-at bs place .note
 
 abbrev pub details-of : Fixed → RawDetails
 details-of f = record { kind = f .kind; from = f .from; width = f .width; length = f .length }
+
+-- The header of a file, as an opened one holds it; its fields give back the file's first bytes.
+pub record Opened (bs : List ℕ) (ticks p q count : ℕ) : Type 0 where
+  pub ticks-is : ticks ≡ head-at bs .ticks
+  pub p-is : p ≡ head-at bs .p
+  pub q-is : q ≡ head-at bs .q
+  pub count-is : count ≡ head-at bs .count
+  pub written : head-bytes (head-at bs) ≡ part bs 0 6
 
 -- What is asked before a file is opened: is the header there, is the version known, is the count
 -- within bounds, and then the questions on a ring and on a pace.

@@ -62,6 +62,20 @@ told (Zone n f w v note) =
       note = now (note .bytes);
     }
 
+-- How it is written.
+abbrev pub entry-bytes : Entry → List ℕ
+entry-bytes e =
+    fixed-bytes
+    (record {
+      number = e .number;
+      kind = kind-number (e .kind);
+      from = e .from;
+      width = e .width;
+      length = e .length;
+      note = length (e .note);
+    })
+    ++ e .note
+
 -- Numbers and a note, made into a record.
 pub record Made (n : Numbers) (note-place : ℕ) (note : List ℕ) (e : Entry) : Type 0 where
   pub number : e .number ≡ n .number
@@ -73,7 +87,7 @@ pub record Made (n : Numbers) (note-place : ℕ) (note : List ℕ) (e : Entry) :
   pub bytes : e .note ≡ note
 
 -- The record at a place says this, and its note is the file's own bytes from ten bytes on.
-pub record Stands (bs : List ℕ) (place : ℕ) (e : Entry) : Type 0 where
+pub record Said (bs : List ℕ) (place : ℕ) (e : Entry) : Type 0 where
   pub number : e .number ≡ fixed-at bs place .number
   pub kind : kind-number (e .kind) ≡ fixed-at bs place .kind
   pub from : e .from ≡ fixed-at bs place .from
@@ -81,6 +95,11 @@ pub record Stands (bs : List ℕ) (place : ℕ) (e : Entry) : Type 0 where
   pub length : e .length ≡ fixed-at bs place .length
   pub note-place : e .note-place ≡ place + 10
   pub note : e .note ≡ part bs (place + 10) (fixed-at bs place .note)
+
+-- The same, and what it says gives back the record's bytes.
+pub record Stands (bs : List ℕ) (place : ℕ) (e : Entry) : Type 0 where
+  pub said : Said bs place e
+  pub written : entry-bytes e ≡ part bs place (size-at bs place)
 
 -- One call of `next` on a file of so many records. Once all are read there are no more; a refusal
 -- leaves the cursor as it was; an accepted record moves it to the byte after its note.

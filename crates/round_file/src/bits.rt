@@ -1,7 +1,7 @@
 ghost use mathlib.Core.Path.{_≡_};
 ghost use Prim.Native.Nat.{_+_, _*_, _^_, _<_, _≤_};
 ghost use lib.ListN.{length};
-ghost use Rattle.round_file.specs.Bits.{bit, field};
+ghost use Rattle.round_file.specs.Bits.{bit, field, Octets};
 
 // Bit i of the bytes, the most significant of each byte first.
 fn bit_at(bytes: &[u8], i: usize) -> u32
@@ -17,6 +17,7 @@ pub fn field_at(fixed: &[u8], at: usize, width: usize) -> u32
     requires { ⌜ at + width ≤ 8 * length (now fixed) ⌝ ∗ ⌜ length (now fixed) ≤ 10 ⌝ ∗ ⌜ width ≤ 20 ⌝ }
     ensures value { λ r. ⌜ r ≡ field (now (fixed .entry)) at width ⌝ }
     ensures small { λ r. ⌜ r < 2 ^ width ⌝ }
+    ensures octets { λ _. ⌜ Octets (now (fixed .entry)) ⌝ }
 {
     let mut number = 0;
     for i in 0..width {

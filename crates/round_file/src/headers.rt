@@ -1,10 +1,7 @@
-ghost use mathlib.Core.Path.{_≡_};
-ghost use Prim.Native.Nat.{_<_};
-ghost use lib.ListN.{length, take};
 ghost use Rattle.std.specs.Results.{Cases};
 ghost use Rattle.ring.specs.Questions.{All-yes, First-no};
 ghost use Rattle.ring.specs.Refusals.{number-of};
-ghost use Rattle.round_file.specs.Format.{head-at, head-questions};
+ghost use Rattle.round_file.specs.Format.{head-questions, Opened};
 use crate::bits::field_at;
 use ring::Pace;
 use ring::PaceDebug;
@@ -26,7 +23,7 @@ impl Header {
     pub const SIZE: usize = 6;
 
     pub fn open(bytes: &[u8]) -> Result<Header, Refusal>
-        ensures { λ r. ⌜ Cases r (λ h. All-yes (head-questions (now (bytes .entry))) × (h .ring .ticks ≡ head-at (now (bytes .entry)) .ticks) × (h .pace .p ≡ head-at (now (bytes .entry)) .p) × (h .pace .q ≡ head-at (now (bytes .entry)) .q) × (h .count ≡ head-at (now (bytes .entry)) .count)) (λ e. First-no (head-questions (now (bytes .entry))) (number-of e)) ⌝ }
+        ensures { λ r. ⌜ Cases r (λ h. All-yes (head-questions (now (bytes .entry))) × Opened (now (bytes .entry)) (h .ring .ticks) (h .pace .p) (h .pace .q) (h .count)) (λ e. First-no (head-questions (now (bytes .entry))) (number-of e)) ⌝ }
     {
         if bytes.len() < 6 {
             return Err(Refusal::BytesMissing);

@@ -38,3 +38,6 @@ loop-i-again c =
       rw add-one (cc),
       rw add-one (omega (arith, p)),
     )
+
+pub returns : need.returns
+returns c = record { value = search needs; small = search needs; octets = λ k. c .typed .fixed k .fits }
