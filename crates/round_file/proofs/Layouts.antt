@@ -74,7 +74,7 @@ fixed-written bs place o h =
     ap (λ n. octets n (packed fixed-widths (fields (part bs place 10) 0 fixed-widths))) (sym size) ∙ e
 
 -- A part, cut in two.
-cut : (bs : List ℕ) (place a b : ℕ) → part bs place a ++ part bs (place + a) b ≡ part bs place (a + b)
+pub cut : (bs : List ℕ) (place a b : ℕ) → part bs place a ++ part bs (place + a) b ≡ part bs place (a + b)
 cut bs place a b =
     ap (λ l. part bs place a ++ take b l) (sym (drop-drop a place bs))
     ∙ ap (λ l. l ++ take b (drop a (drop place bs))) (sym (take-take a (a + b) (drop place bs) (omega arith)))

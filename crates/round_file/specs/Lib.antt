@@ -1,3 +1,5 @@
 pub mod Bits
 pub mod Format
 pub mod Reading
+pub mod Faults
+pub mod Listed
