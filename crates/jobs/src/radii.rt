@@ -1,7 +1,7 @@
 ghost use mathlib.Core.Path.{_≡_};
-ghost use Prim.Native.Nat.{_<_, _≤_};
+ghost use Prim.Native.Nat.{ℕ, _<_, _≤_};
 ghost use lib.Dec.{T};
-ghost use lib.ListN.{length};
+ghost use lib.ListN.{length, getD};
 ghost use Rattle.std.specs.Options.{Cases as BySome};
 ghost use Rattle.jobs.specs.Radii.{Radius, One-radius, Worked-radii, every, is-radius};
 
@@ -1033,7 +1033,7 @@ const RADII: [u16; 1024] = [
     319,
 ];
 
-// The whole table, with the rule at every entry.
+// The whole table, which passes the test at every entry.
 fn table() -> &'static [u16; 1024]
     ensures rule { λ r. ⌜ T (every is-radius 0 (now r)) ⌝ }
     ensures size { λ r. ⌜ length (now r) ≡ 1024 ⌝ }
@@ -1041,14 +1041,23 @@ fn table() -> &'static [u16; 1024]
     &RADII
 }
 
+// The same, with the rule at each value. A value has one radius.
+fn radii() -> &'static [u16; 1024]
+    ensures each { λ r. ⌜ ((value : ℕ) → value ≤ 1023 → Radius value (getD (now r) value 0)) ⌝ }
+    ensures size { λ r. ⌜ length (now r) ≡ 1024 ⌝ }
+    ensures laws { λ _. ⌜ One-radius × Worked-radii ⌝ }
+{
+    table()
+}
+
 // The radius of a zone's value, none for a value past 1,023.
 pub fn radius(value: u16) -> Option<u16>
     ensures cases { λ r. ⌜ BySome r (1023 < value) (λ x. (value ≤ 1023) × Radius value x) ⌝ }
-    ensures one { λ _. ⌜ One-radius ⌝ }
-    ensures worked { λ _. ⌜ Worked-radii ⌝ }
+    ensures laws { λ _. ⌜ One-radius × Worked-radii ⌝ }
 {
+    let radii = radii();
     if value > 1_023 {
         return None;
     }
-    Some(table()[value as usize])
+    Some(radii[value as usize])
 }

@@ -1,3 +1,4 @@
 pub mod Questions
 pub mod Refusals
 pub mod Measures
+pub mod Faults

@@ -18,6 +18,14 @@ abbrev pub First-no : List Question → ℕ → Type 0
 First-no [] n = ⊥
 First-no (q ∷ qs) n = ((q .1 → ⊥) × (n ≡ q .0)) ⊎ (q .1 × First-no qs n)
 
+-- No two numbers are that of the first no.
+abbrev pub One-number : List Question → Type 0
+One-number qs = (m n : ℕ) → First-no qs m → First-no qs n → m ≡ n
+
+-- Where every question is answered with yes, there is no first no.
+abbrev pub Yes-or-no : List Question → Type 0
+Yes-or-no qs = (n : ℕ) → All-yes qs → First-no qs n → ⊥
+
 -- Every question is answered with yes, and none with no.
 pub record Granted (qs : List Question) : Type 0 where
   pub yes : All-yes qs

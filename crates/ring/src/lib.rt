@@ -2,12 +2,18 @@
 //
 // A reader has to believe the bounds of a ring and of a pace (specs/Measures), the number of each
 // refusal (specs/Refusals), and what it means to refuse by number: the questions put to a call are
-// an ordered list, and the first no gives the number (specs/Questions).
+// an ordered list, and the first no gives the number (specs/Questions). specs/Faults has how a
+// refusal is told of a file: by layer, record and number.
 
+mod faults;
 mod measures;
 mod questions;
 mod refusals;
 
+pub use faults::Fault;
+pub use faults::FaultDisplay;
+pub use faults::Layer;
+pub use faults::at_record;
 pub use measures::Pace;
 pub use measures::PaceDebug;
 pub use measures::PaceEq;

@@ -1,5 +1,4 @@
 pub mod Bits
 pub mod Format
 pub mod Reading
-pub mod Faults
 pub mod Listed

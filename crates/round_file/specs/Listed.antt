@@ -12,9 +12,9 @@ use Rattle.ring.specs.Questions.{All-yes, First-no}
 use Rattle.ring.specs.Refusals.{number-of}
 use Rattle.ring.specs.declared.refusals.Refusal.{Refusal}
 use Rattle.ring.specs.declared.refusals.Refusal.the-variants.{BytesLeft, NoMemory}
-use Rattle.round_file.specs.Format.{head-at, head-bytes, head-questions, record-questions, size-at}
+use Rattle.round_file.specs.Format.{head-at, head-bytes, head-questions, Heads-exact, Records-exact, record-questions, size-at}
 use Rattle.round_file.specs.Reading.{Entry, entry-bytes, told, Stands}
-use Rattle.round_file.specs.declared.faults.Fault.{Fault}
+use Rattle.ring.specs.declared.faults.Fault.{Fault}
 use Rattle.round_file.specs.declared.cursors.Cursor.{Cursor}
 use Rattle.round_file.specs.declared.listings.Collected.{Collected}
 use Rattle.round_file.specs.declared.listings.Listing.{Listing}
@@ -60,7 +60,8 @@ pub record Collects (ticks count : ℕ) (bs : List ℕ) (c : Cursor) (k : Collec
   pub read : c′ .read ≡ c .read + length (vec-items (k .records))
 
 -- A file whose header is accepted: its records up to the end or the first fault, which are written
--- in the file one after the other.
+-- in the file one after the other. No other records stand in these bytes, and whatever is written in
+-- this layout is read again.
 pub record Listed (bs : List ℕ) (l : Listing) : Type 0 where
   pub header : All-yes (head-questions bs)
   pub stop : Option ℕ
@@ -70,6 +71,7 @@ pub record Listed (bs : List ℕ) (l : Listing) : Type 0 where
   pub fault : Faulted (head-at bs .count) (length (vec-items (l .records))) stop (l .left) (l .fault)
   pub written : take end bs ≡ head-bytes (head-at bs) ++ joined entry-bytes (map told (vec-items (l .records)))
   pub one : One-reading bs
+  pub exact : Heads-exact × Records-exact
 
 -- A file of which nothing is listed: its header is refused, or memory was wanting.
 abbrev pub Unlisted : List ℕ → Fault → Type 0

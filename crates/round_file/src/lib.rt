@@ -2,21 +2,17 @@
 // reader that a refusal leaves where it stood.
 //
 // A reader of this crate has to believe how numbers are packed into bytes (specs/Bits), the layout
-// and the questions of a file (specs/Format), what reading a record gives (specs/Reading) and a
-// whole file (specs/Listed), and how a fault is told (specs/Faults).
+// and the questions of a file (specs/Format), and what reading a record gives (specs/Reading)
+// and a whole file (specs/Listed).
 
 mod bits;
 mod cursors;
-mod faults;
 mod headers;
 mod listings;
 mod readers;
 mod records;
 
 pub use cursors::Cursor;
-pub use faults::Fault;
-pub use faults::FaultDisplay;
-pub use faults::Layer;
 pub use headers::Header;
 pub use listings::Listing;
 pub use readers::Reader;

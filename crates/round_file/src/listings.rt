@@ -3,12 +3,12 @@ ghost use Prim.Native.Nat.{_≤_, _<_};
 ghost use Rattle.std.specs.Results.{Cases};
 ghost use Rattle.std.specs.Vec.{made};
 ghost use Rattle.round_file.specs.Listed.{Listed, Unlisted, Collects, Faulted, stop-number};
-use crate::faults::Fault;
-use crate::faults::at_record;
 use crate::headers::Header;
 use crate::readers::Reader;
 use crate::records::Record;
+use ring::Fault;
 use ring::Refusal;
+use ring::at_record;
 use std::alloc::AllocError;
 use std::alloc::Global;
 

@@ -8,7 +8,7 @@ ghost use Rattle.ring.specs.declared.refusals.Refusal.the-variants.{BytesMissin
 ghost use Rattle.jobs.specs.Asked.{job-questions};
 ghost use Rattle.jobs.specs.Kinds.{kind-number};
 ghost use Rattle.round_file.specs.Bits.{Octets};
-ghost use Rattle.round_file.specs.Format.{fixed-of, fixed-at, details-of, part, Heads-exact, Records-exact, record-questions, size-at};
+ghost use Rattle.round_file.specs.Format.{fixed-of, fixed-at, details-of, part, record-questions, size-at};
 ghost use Rattle.round_file.specs.Reading.{told, Stands, Next, Made};
 use crate::bits::field_at;
 use crate::cursors::Cursor;
@@ -135,13 +135,11 @@ pub struct Reader<'a> {
 }
 
 impl<'a> Reader<'a> {
-    // Stands at the first record of the file with this header. Whatever is written in the file's
-    // layout is read again.
+    // Stands at the first record of the file with this header.
     pub fn new(bytes: &'a [u8], header: Header) -> Reader<'a>
         ensures bytes { λ r. ⌜ now (r .bytes) ≡ now (bytes .entry) ⌝ }
         ensures header { λ r. ⌜ r .header ≡ header ⌝ }
         ensures cursor { λ r. ⌜ (r .cursor .place ≡ 6) × (r .cursor .read ≡ 0) ⌝ }
-        ensures exact { λ _. ⌜ Heads-exact × Records-exact ⌝ }
     {
         Reader {
             bytes,

@@ -15,7 +15,8 @@ use Rattle.round_file.specs.Reading.{Entry, entry-bytes, told}
 use Rattle.round_file.specs.Listed.{Reads, File-reads, Collects, Faulted, Listed, stop-number}
 use Rattle.round_file.specs.declared.cursors.Cursor.{Cursor}
 use Rattle.round_file.specs.declared.listings.Collected.{Collected}
-use Rattle.round_file.specs.declared.faults.Fault.{Fault}
+use Rattle.ring.specs.declared.faults.Fault.{Fault}
+use Rattle.round_file.proofs.Layouts.{heads-exact, records-exact}
 use Rattle.round_file.proofs.Lists.{few, one-way, within, written}
 use Rattle.round_file.proofs.listings.Listing.read.Needs as need
 
@@ -58,6 +59,7 @@ module _ (bs : List ℕ) (ticks p q count : ℕ) (start end : Cursor) (k : Colle
             written t bs n 6 entries (stop-number (k .stop)) (end .place) from-start
             ∙ ap (λ l. l ++ joined entry-bytes entries) (sym (opened .written));
         one = λ es fs s u m o a b. one-way t bs n 6 es fs s u m o a b;
+        exact = (heads-exact, records-exact);
       }
 
 pub fault-of-fault-requires : need.fault-of-fault-requires

@@ -1,10 +1,10 @@
 ghost use mathlib.Core.Path.{_≡_};
 ghost use Rattle.std.specs.Results.{Cases};
 ghost use Rattle.std.specs.declared.result.Result.the-variants.{Ok, Err};
-ghost use Rattle.round_file.specs.Faults.{layer-of, layer-number};
-use ring::Refusal;
-use ring::RefusalDebug;
-use ring::RefusalPartialEq;
+ghost use Rattle.ring.specs.Faults.{layer-of, layer-number};
+use crate::refusals::Refusal;
+use crate::refusals::RefusalDebug;
+use crate::refusals::RefusalPartialEq;
 use std::fmt;
 
 // What a question belongs to: the file as a whole, or one record of it.

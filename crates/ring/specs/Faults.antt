@@ -14,8 +14,8 @@ use Rattle.ring.specs.declared.refusals.Refusal.the-variants.{
   BytesLeft,
   NoMemory,
 }
-use Rattle.round_file.specs.declared.faults.Layer.{Layer}
-use Rattle.round_file.specs.declared.faults.Layer.the-variants.{File, Record}
+use Rattle.ring.specs.declared.faults.Layer.{Layer}
+use Rattle.ring.specs.declared.faults.Layer.the-variants.{File, Record}
 
 -- The layer whose question was answered with no. Want of memory is no layer's.
 abbrev pub layer-of : Refusal → Option Layer
