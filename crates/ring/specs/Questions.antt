@@ -1,5 +1,6 @@
 -- How every call that may say no is promised: by the questions put to it, in their order.
 use mathlib.Core.Path.{_≡_}
+use mathlib.Core.Bool.{Bool, true}
 use mathlib.Core.Logic.{_⊎_}
 use mathlib.Core.List.{List, [], _∷_}
 use Prim.Native.Nat.{ℕ}
@@ -36,3 +37,7 @@ pub record Refused-by (qs : List Question) (n : ℕ) : Type 0 where
   pub no : First-no qs n
   pub only : (m : ℕ) → First-no qs m → m ≡ n
   pub never : All-yes qs → ⊥
+
+-- The answer says whether P holds.
+abbrev pub Tells : Bool → Type 0 → Type 0
+Tells r P = (r ≡ true → P) × (P → r ≡ true)

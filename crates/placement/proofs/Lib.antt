@@ -1,0 +1,13 @@
+pub mod Offsets
+pub mod Chains
+pub mod Distinct
+pub mod Orders
+pub mod Turns
+pub mod Places
+pub mod Leaving
+pub mod Meets
+pub mod Inserts
+pub mod Riders
+pub mod Easier
+pub mod Steps
+pub mod Cases
