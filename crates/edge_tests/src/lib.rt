@@ -1,8 +1,8 @@
-// Tests of the round file's reader at the edges of its bounds. The files are written here by shifts,
-// apart from the reader's own way of taking bits.
+// Tests at the edges of the bounds. Files are written here by shifts, apart from the reader's own way
+// of taking bits.
 
 #[cfg(test)]
-mod tests {
+mod files {
     use ring::Refusal;
     use ring::RefusalDebug;
     use round_file::Header;
@@ -178,5 +178,73 @@ mod tests {
             check_eq(reader.cursor().place, 6)?;
         }
         Ok(())
+    }
+}
+
+#[cfg(test)]
+mod seatings {
+    use placement::Seating;
+    use placement::Stay;
+    use placement::Window;
+    use ring::Pace;
+    use ring::RefusalDebug;
+    use ring::Ring;
+    use std::test::*;
+
+    fn trailing(from: u32, width: u32, trail: u32) -> Stay {
+        Stay {
+            window: Window { from, width },
+            lead: 0,
+            trail,
+        }
+    }
+
+    // On 200, lengths 60, 30 and 30 in windows (0, 60).
+    #[test]
+    fn three(rt: LibcRuntime) -> Result<(), Fail> {
+        let list = [
+            trailing(0, 60, 60),
+            trailing(0, 60, 30),
+            trailing(0, 60, 30),
+        ];
+        let order = [0usize, 1, 2].to_vec(rt.alloc())?;
+        let times = [60u64, 200, 230].to_vec(rt.alloc())?;
+        let seating = Seating { order, times };
+        let (ring, pace) = (Ring::new(200)?, Pace::new(1, 1)?);
+        check(seating.lawful(ring, pace, &list))?;
+        check(!seating.lawful(Ring::new(199)?, pace, &list))?;
+        check(!seating.lawful(ring, Pace::new(2, 1)?, &list))?;
+        check(!seating.lawful(ring, pace, &list[0..2]))?;
+        check_eq(seating.position(ring, 2), Some(30))?;
+        check_eq(seating.position(ring, 3), None)
+    }
+
+    #[test]
+    fn left_out_and_turned(rt: LibcRuntime) -> Result<(), Fail> {
+        let order = [0usize, 2, 1].to_vec(rt.alloc())?;
+        let times = [60u64, 200, 230].to_vec(rt.alloc())?;
+        let mut seating = Seating { order, times };
+        let ring = Ring::new(200)?;
+        seating.without(ring, 0);
+        check_eq(seating.order.as_slice(), [0usize, 1].as_slice())?;
+        check_eq(seating.times.as_slice(), [30u64, 200].as_slice())?;
+        seating.begin_again(ring, 1);
+        check_eq(seating.order.as_slice(), [1usize, 0].as_slice())?;
+        check_eq(seating.times.as_slice(), [0u64, 30].as_slice())
+    }
+
+    #[test]
+    fn windows() -> Result<(), Fail> {
+        let ring = Ring::new(100)?;
+        let wrapped = Window {
+            from: 95,
+            width: 10,
+        };
+        check(wrapped.holds(ring, 105))?;
+        check(!wrapped.holds(ring, 106))?;
+        check_eq(wrapped.offset(ring, 0), 5)?;
+        check_eq(wrapped.earliest(ring, 106), Some(195))?;
+        check_eq(wrapped.earliest(ring, 199), Some(199))?;
+        check_eq(Window { from: 7, width: 0 }.earliest(ring, u64::MAX), None)
     }
 }
