@@ -21,10 +21,10 @@ pub record Lifted (C p q : ℕ) (a : Stay) (x : ℕ) (b : Stay) (z : ℕ) : Type
   pub soon : Apart p q a (x + C) b at → ⊥
 
 -- The whole ticks that hold D q-ths.
-ceil-covers : (q D : ℕ) → 1 ≤ q → D ≤ q * ((D + (q - 1)) / q)
+pub ceil-covers : (q D : ℕ) → 1 ≤ q → D ≤ q * ((D + (q - 1)) / q)
 ceil-covers q D h = omega (arith, div-add-mod (D + (q - 1)) q, mod-lt (D + (q - 1)) h)
 
-ceil-least : (q D x z : ℕ) → 1 ≤ q → D + q * x ≤ q * z → x + (D + (q - 1)) / q ≤ z
+pub ceil-least : (q D x z : ℕ) → 1 ≤ q → D + q * x ≤ q * z → x + (D + (q - 1)) / q ≤ z
 ceil-least q D x z h e =
     let g = (D + (q - 1)) / q in
     let l : q * (x + g) < q * suc z = omega (arith, mul-add q x g, mul-suc q z, mul-div-le (D + (q - 1)) q) in

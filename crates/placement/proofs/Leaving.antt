@@ -13,7 +13,7 @@ use Rattle.std.specs.Holes.{removed}
 use mathlib.Core.Logic.{inl, inr}
 use Rattle.placement.specs.Windows.{Holds}
 use Rattle.placement.specs.Stays.{no-stay}
-use Rattle.placement.specs.Seatings.{Order, Seated, Lawful, planned, turned, begun, begun-again, left-out, without, place-of, position-of, fallen}
+use Rattle.placement.specs.Seatings.{Order, Seated, Lawful, no-plan, planned, turned, begun, begun-again, left-out, without, place-of, position-of, fallen}
 use Rattle.placement.specs.Arcs.{Positions}
 use Rattle.placement.specs.Keeps.{Left}
 use Rattle.placement.specs.declared.stays.Stay.{Stay}
@@ -190,3 +190,11 @@ unfolding Seated Lawful
 empty-lawful C p q l [] [] z o e = (closed-seated C p q l [] [] o tt, refl)
 empty-lawful C p q l [] (t ∷ ts) z o e = absurd (omega arith)
 empty-lawful C p q l (a ∷ os) ts z o e = let n : suc (length os) ≡ length l = o .0 in absurd (omega arith)
+
+pub empty-seated : (C p q : ℕ) (l : List Stay) → length l ≡ 0 → Lawful C p q l no-plan × Seated C p q l no-plan
+unfolding Lawful
+empty-seated C p q [] n =
+    let o : Order 0 [] = (refl, (λ k b. absurd (omega arith)), λ j k b. absurd (omega (arith, b .1))) in
+    let s = closed-seated C p q [] [] [] o tt in
+    ((s, refl), s)
+empty-seated C p q (a ∷ l) n = absurd (omega arith)

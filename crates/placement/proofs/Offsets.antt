@@ -2,7 +2,7 @@
 -- formula of a window.
 use Prim.Native.Nat.{ℕ, zero, suc, _+_, _-_, _*_, _/_, _%_, _<_, _≤_}
 use mathlib.Core.Path.{_≡_, refl, sym, ap, _∙_}
-use native.Mathlib.Nat.{add-mod-right, mod-add-mod, mod-eq-of-lt, mod-lt, add-mul}
+use native.Mathlib.Nat.{add-mod-right, mod-add-mod, mod-eq-of-lt, mod-lt, mod-self, add-mul, add-mul-mod-self-right}
 use native.Mathlib.Omega.{arith}
 use native.Mathlib.Decide.{decLt, decLe}
 use lib.Arith.{digits-mod}
@@ -64,6 +64,27 @@ module _ (C : ℕ) (w : Window) where
   pub holds-mod : (x y : ℕ) → x % C ≡ y % C → Holds C w x → Holds C w y
   holds-mod x y e h =
       omega (arith, h, mod-add-mod x C (C - w .from), mod-add-mod y C (C - w .from), ap (λ v. (v + (C - w .from)) % C) e)
+
+-- The first position lies in the window.
+pub offset-from : (C : ℕ) (w : Window) → w .from < C → offset C w (w .from) ≡ 0
+offset-from C w h =
+    let e : w .from + (C - w .from) ≡ C = omega arith in
+    rw e (mod-self C)
+
+pub offset-mod : (C : ℕ) (w : Window) (x y : ℕ) → x % C ≡ y % C → offset C w x ≡ offset C w y
+offset-mod C w x y e =
+    sym (mod-add-mod x C (C - w .from)) ∙ ap (λ v. (v + (C - w .from)) % C) e ∙ mod-add-mod y C (C - w .from)
+
+-- Times moved back, so that y comes to the first position of v: in w the offset falls by as much.
+pub offset-back : (C : ℕ) (v w : Window) (y u : ℕ) → v .from < C → y ≤ u → offset C v y ≤ offset C w u → offset C w (u + v .from - y) ≡ offset C w u - offset C v y
+offset-back C v w y u h l e =
+    let k = (y + (C - v .from)) / C in
+    let j = (u + (C - w .from)) / C in
+    let ky : k * C + offset C v y ≡ y + (C - v .from) = div-add-mod' (y + (C - v .from)) C in
+    let ju : j * C + offset C w u ≡ u + (C - w .from) = div-add-mod' (u + (C - w .from)) C in
+    let n = u + v .from - y + (C - w .from) in
+    let m : (n + k * C) % C ≡ offset C w u - offset C v y = mod-is C (j + 1) (offset C w u - offset C v y) (n + k * C) (omega (arith, mod-lt (u + (C - w .from)) {m = C} (omega arith))) (omega (arith, add-mul j 1 C)) in
+    rw (add-mul-mod-self-right n k C) at m
 
 -- A window of one position holds the times there and no others.
 pub holds-one : (C x r : ℕ) → x < C → Holds C (record { from = x; width = 0 }) r → r % C ≡ x

@@ -35,7 +35,7 @@ apart-less p q D a x b y hq h f =
     omega (arith, mul-add q (x - D) D, mul-add q (y - D) D)
 
 -- a chain cut at a stay
-record Parts {X : Type 0} (f : X → Stay) (W : X → ℕ → Type 0) (p q : ℕ) (a : X) (x : ℕ) (ss : List X) (b : X) (rest : List X) (us : List ℕ) (c : X) (z : ℕ) : Type 0 where
+pub record Parts {X : Type 0} (f : X → Stay) (W : X → ℕ → Type 0) (p q : ℕ) (a : X) (x : ℕ) (ss : List X) (b : X) (rest : List X) (us : List ℕ) (c : X) (z : ℕ) : Type 0 where
   pub ts : List ℕ
   pub at : ℕ
   pub vs : List ℕ
@@ -46,7 +46,7 @@ record Parts {X : Type 0} (f : X → Stay) (W : X → ℕ → Type 0) (p q : ℕ
   pub second : Chain f W p q b at rest vs c z
 
 module _ {X : Type 0} (f : X → Stay) (W : X → ℕ → Type 0) (p q : ℕ) where
-  chain-cut : (a : X) (x : ℕ) (ss : List X) (b : X) (rest : List X) (us : List ℕ) (c : X) (z : ℕ) → Chain f W p q a x (ss ++ b ∷ rest) us c z → Parts f W p q a x ss b rest us c z
+  pub chain-cut : (a : X) (x : ℕ) (ss : List X) (b : X) (rest : List X) (us : List ℕ) (c : X) (z : ℕ) → Chain f W p q a x (ss ++ b ∷ rest) us c z → Parts f W p q a x ss b rest us c z
   chain-cut a x [] b rest [] c z r = absurd r
   chain-cut a x [] b rest (u ∷ us) c z r = record { ts = []; at = u; vs = us; is = refl; long = refl; first = r .1; holds = r .0; second = r .2 }
   chain-cut a x (s ∷ ss) b rest [] c z r = absurd r
@@ -54,13 +54,13 @@ module _ {X : Type 0} (f : X → Stay) (W : X → ℕ → Type 0) (p q : ℕ) wh
       let k = chain-cut s u ss b rest us c z (r .2) in
       record { ts = u ∷ k .ts; at = k .at; vs = k .vs; is = ap (λ v. u ∷ v) (k .is); long = ap suc (k .long); first = (r .0, r .1, k .first); holds = k .holds; second = k .second }
 
-  chain-join : (a : X) (x : ℕ) (ss : List X) (ts : List ℕ) (b : X) (y : ℕ) (ss′ : List X) (ts′ : List ℕ) (c : X) (z : ℕ) → Chain f W p q a x ss ts b y → W b y → Chain f W p q b y ss′ ts′ c z → Chain f W p q a x (ss ++ b ∷ ss′) (ts ++ y ∷ ts′) c z
+  pub chain-join : (a : X) (x : ℕ) (ss : List X) (ts : List ℕ) (b : X) (y : ℕ) (ss′ : List X) (ts′ : List ℕ) (c : X) (z : ℕ) → Chain f W p q a x ss ts b y → W b y → Chain f W p q b y ss′ ts′ c z → Chain f W p q a x (ss ++ b ∷ ss′) (ts ++ y ∷ ts′) c z
   chain-join a x [] [] b y ss′ ts′ c z r w n = (w, r, n)
   chain-join a x [] (t ∷ ts) b y ss′ ts′ c z r w n = absurd r
   chain-join a x (s ∷ ss) [] b y ss′ ts′ c z r w n = absurd r
   chain-join a x (s ∷ ss) (t ∷ ts) b y ss′ ts′ c z r w n = (r .0, r .1, chain-join s t ss ts b y ss′ ts′ c z (r .2) w n)
 
-  chain-later : (m : ℕ) → ((s : X) (t : ℕ) → W s t → W s (t + m)) → (a : X) (x : ℕ) (ss : List X) (ts : List ℕ) (b : X) (y : ℕ) → Chain f W p q a x ss ts b y → Chain f W p q a (x + m) ss (map (λ t. t + m) ts) b (y + m)
+  pub chain-later : (m : ℕ) → ((s : X) (t : ℕ) → W s t → W s (t + m)) → (a : X) (x : ℕ) (ss : List X) (ts : List ℕ) (b : X) (y : ℕ) → Chain f W p q a x ss ts b y → Chain f W p q a (x + m) ss (map (λ t. t + m) ts) b (y + m)
   chain-later m k a x [] [] b y r = apart-later p q (f a) x (f b) y m r
   chain-later m k a x [] (t ∷ ts) b y r = absurd r
   chain-later m k a x (s ∷ ss) [] b y r = absurd r

@@ -80,9 +80,13 @@ abbrev pub place-of : ℕ → List ℕ → ℕ
 place-of i [] = 0
 place-of i (o ∷ os) = cond (eqb o i) 0 (suc (place-of i os))
 
--- A stay's position: its time, round the ring.
+-- The time of the stay i.
+abbrev pub time-of : ℕ → Plan → ℕ
+time-of i s = getD (s .times) (place-of i (s .order)) 0
+
+-- Its position: its time, round the ring.
 abbrev pub position-of : ℕ → ℕ → Plan → ℕ
-position-of C i s = getD (s .times) (place-of i (s .order)) 0 % C
+position-of C i s = time-of i s % C
 
 -- A stay has a position if it stands in the order and a time stands there.
 abbrev pub Has-position : ℕ → Plan → Type 0

@@ -10,5 +10,6 @@ mod stays;
 mod windows;
 
 pub use seatings::Seating;
+pub use seatings::is_order;
 pub use stays::Stay;
 pub use windows::Window;

@@ -44,7 +44,7 @@ fn find(order: &[usize], stay: usize) -> Option<usize>
 }
 
 // Whether the order holds each index below n once.
-fn is_order(order: &[usize], n: usize) -> bool
+pub fn is_order(order: &[usize], n: usize) -> bool
     ensures { λ r. ⌜ Tells r (Order n (now (order .entry))) ⌝ }
 {
     if order.len() != n {
@@ -73,10 +73,10 @@ fn is_fine(ring: Ring, pace: Pace, stays: &[Stay], order: &[usize], times: &[u64
     }
     let next = k + 1;
     if next < stays.len() {
-        stay.is_apart(pace, times[k], &stays[order[next]], times[next])
+        stay.is_apart(pace.ratio(), times[k], &stays[order[next]], times[next])
     } else {
         stay.is_apart(
-            pace,
+            pace.ratio(),
             times[k],
             &stays[order[0]],
             times[0] + ring.ticks() as u64,

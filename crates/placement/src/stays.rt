@@ -3,7 +3,7 @@ ghost use Rattle.placement.specs.Stays.{Stay-bounds, Apart};
 use crate::windows::Window;
 use crate::windows::WindowDebug;
 use crate::windows::WindowPartialEq;
-use ring::Pace;
+use ring::Ratio;
 use ring::Ring;
 
 // A window, and what is taken before and after the position in it, in units that the pace turns into
@@ -30,11 +30,11 @@ impl Stay {
 
     // Whether the next stay, at y, is apart from this one at x: there is room for this one's trail and
     // the next one's lead.
-    pub fn is_apart(&self, pace: Pace, x: u64, next: &Stay, y: u64) -> bool
-        ensures { λ r. ⌜ Tells r (Apart (pace .p) (pace .q) (now (self .entry)) x (now (next .entry)) y) ⌝ }
+    pub fn is_apart(&self, ratio: Ratio, x: u64, next: &Stay, y: u64) -> bool
+        ensures { λ r. ⌜ Tells r (Apart (ratio .over) (ratio .under) (now (self .entry)) x (now (next .entry)) y) ⌝ }
     {
-        let p = pace.p() as u128;
-        let q = pace.q() as u128;
+        let p = ratio.over() as u128;
+        let q = ratio.under() as u128;
         p * (self.trail as u128 + next.lead as u128) + q * x as u128 <= q * y as u128
     }
 }

@@ -18,6 +18,7 @@ pub use measures::Pace;
 pub use measures::PaceDebug;
 pub use measures::PaceEq;
 pub use measures::PacePartialEq;
+pub use measures::Ratio;
 pub use measures::Ring;
 pub use measures::RingDebug;
 pub use measures::RingEq;

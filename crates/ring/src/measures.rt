@@ -1,4 +1,6 @@
 ghost use mathlib.Core.Path.{_≡_};
+ghost use Prim.Native.Nat.{_≤_};
+ghost use Rattle.std.specs.Options.{Cases as BySome};
 ghost use Rattle.std.specs.Results.{Cases};
 ghost use Rattle.ring.specs.Questions.{All-yes, First-no};
 ghost use Rattle.ring.specs.Refusals.{number-of};
@@ -58,5 +60,46 @@ impl Pace {
         ensures { λ r. ⌜ r ≡ now (self .entry) .q ⌝ }
     {
         self.q
+    }
+
+    pub fn ratio(&self) -> Ratio
+        ensures { λ r. ⌜ (r .over ≡ now (self .entry) .p) × (r .under ≡ now (self .entry) .q) ⌝ }
+    {
+        Ratio {
+            over: self.p,
+            under: self.q,
+        }
+    }
+}
+
+// A fraction of whole numbers, not reduced and not bounded as a pace is.
+#[derive(Clone, Copy, Debug)]
+pub struct Ratio {
+    over: u32,
+    under: u32,
+    ghost whole: { 1 ≤ under },
+}
+
+impl Ratio {
+    // Nothing over zero.
+    pub fn new(over: u32, under: u32) -> Option<Ratio>
+        ensures { λ r. ⌜ BySome r (under ≡ 0) (λ x. (x .over ≡ over) × (x .under ≡ under)) ⌝ }
+    {
+        if under == 0 {
+            return None;
+        }
+        Some(Ratio { over, under })
+    }
+
+    pub fn over(&self) -> u32
+        ensures { λ r. ⌜ r ≡ now (self .entry) .over ⌝ }
+    {
+        self.over
+    }
+
+    pub fn under(&self) -> u32
+        ensures { λ r. ⌜ r ≡ now (self .entry) .under ⌝ }
+    {
+        self.under
     }
 }

@@ -1,0 +1,4 @@
+pub mod Followers
+pub mod Starts
+pub mod Pushes
+pub mod Firsts
