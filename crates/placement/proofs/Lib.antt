@@ -9,5 +9,6 @@ pub mod Meets
 pub mod Inserts
 pub mod Riders
 pub mod Easier
+pub mod Unique
 pub mod Steps
 pub mod Cases

@@ -8,7 +8,7 @@ use Prim.Native.Nat.{ℕ, _+_, _*_, _%_, _<_, _≤_}
 use lib.ListN.{length, getD}
 use Rattle.placement.specs.Windows.{Holds}
 use Rattle.placement.specs.Stays.{Stay-bounds, no-stay}
-use Rattle.placement.specs.Seatings.{Plan, Seated, Lawful, kth}
+use Rattle.placement.specs.Seatings.{Plan, Lawful, kth, position-of}
 use Rattle.placement.specs.Keeps.{Stays-lawful, Below-two-rings}
 use Rattle.placement.specs.declared.stays.Stay.{Stay}
 
@@ -59,10 +59,17 @@ One-rider C p q l s =
     (i j k : ℕ) → i < length l → j < length l → Covers C p q (kth l (s .order) i) (getD (s .times) i 0) k
     → Covers C p q (kth l (s .order) j) (getD (s .times) j 0) k → i ≡ j
 
--- What a lawful seating gives: one rider, positions that fit, and that it stays lawful where no more
--- is asked.
+-- No other lawful seating of the list has the same positions.
+abbrev pub Determined : ℕ → ℕ → ℕ → List Stay → Plan → Type 0
+Determined C p q l s =
+    In-bounds C l → (u : Plan) → Lawful C p q l u
+    → ((j : ℕ) → j < length l → position-of C j u ≡ position-of C j s) → u ≡ s
+
+-- What a lawful seating gives: one rider, positions that fit and that it alone has, and that it stays
+-- lawful where no more is asked.
 pub record Means (C p q : ℕ) (l : List Stay) (s : Plan) : Type 0 where
   pub rider : One-rider C p q l s
   pub fits : (xs : List ℕ) → Positions C (length l) s xs → Fits C p q l xs
+  pub determined : Determined C p q l s
   pub easier : Stays-lawful C p q l s
   pub bounded : Below-two-rings C s

@@ -1,9 +1,10 @@
 use denote.Ref.{now}
 use Rattle.std.specs.Of.Vec.{vec-items}
-use Rattle.placement.specs.Seatings.{Lawful}
+use Rattle.placement.specs.Seatings.{Lawful, planned}
 use Rattle.placement.proofs.Cases.{worked}
 use Rattle.placement.proofs.Easier.{stays-lawful, below-two-rings}
 use Rattle.placement.proofs.Riders.{rider, fits-from, printed}
+use Rattle.placement.proofs.Unique.{determined}
 use Rattle.placement.proofs.seatings.lawful_means.Needs as need
 
 pub returns : need.returns
@@ -25,6 +26,7 @@ returns c =
           record {
             rider = rider C p q l os ts (h .0);
             fits = λ xs ps. fits-from C p q l xs os ts (h .0) ps;
+            determined = λ good. determined C p q l (c .args .pace .bounds .0) hq good (planned os ts) h;
             easier = stays-lawful C p q l os ts hq h;
             bounded = below-two-rings C p q l os ts hC hq (h .0);
           };
