@@ -5,12 +5,12 @@
 // seater here takes, grants and gives (specs/ListOrders, specs/Layers). Everything above a seater
 // rests on the rules that all of them keep, and on nothing else about it.
 
-// mod depot;
+mod depot;
 mod list_order;
 // mod margin;
 mod seaters;
 
-// pub use depot::Depot;
+pub use depot::Depot;
 pub use list_order::ListOrder;
 // pub use margin::Margin;
 pub use seaters::Outcome;
