@@ -1,3 +1,4 @@
 pub mod Counting
 pub mod ListRules
 pub mod DepotRules
+pub mod MarginRules

@@ -124,7 +124,7 @@ none-given : (C p q : ℕ) (s : Plan) → First-begun C p q [] s → s ≡ no-pl
 unfolding begun-again
 none-given C p q s g = g .is ∙ ap (begun-again C 0) (g .first .0 refl)
 
-left : (C p q : ℕ) (l : List Stay) (s : Plan) (k : ℕ) → 1 ≤ C → 1 ≤ q → k < length l → Lawful C p q l s → Lawful C p q (removed l k) (without C k s)
+pub left : (C p q : ℕ) (l : List Stay) (s : Plan) (k : ℕ) → 1 ≤ C → 1 ≤ q → k < length l → Lawful C p q l s → Lawful C p q (removed l k) (without C k s)
 unfolding Lawful
 left C p q l s k hC hq h L = without-keeps C p q l k (s .order) (s .times) hC hq (L .0) h .lawful
 

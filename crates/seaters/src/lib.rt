@@ -7,11 +7,11 @@
 
 mod depot;
 mod list_order;
-// mod margin;
+mod margin;
 mod seaters;
 
 pub use depot::Depot;
 pub use list_order::ListOrder;
-// pub use margin::Margin;
+pub use margin::Margin;
 pub use seaters::Outcome;
 pub use seaters::Seater;
