@@ -2,3 +2,4 @@ pub mod Counting
 pub mod ListRules
 pub mod DepotRules
 pub mod MarginRules
+pub mod Cases

@@ -1,3 +1,4 @@
 pub mod Meanings
 pub mod ListOrders
 pub mod Layers
+pub mod Worked

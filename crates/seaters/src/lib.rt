@@ -8,10 +8,15 @@
 mod depot;
 mod list_order;
 mod margin;
+mod piles;
 mod seaters;
 
 pub use depot::Depot;
+pub use depot::DepotSeater;
 pub use list_order::ListOrder;
+pub use list_order::ListOrderSeater;
 pub use margin::Margin;
+pub use margin::MarginSeater;
+pub use piles::seat_between_depots;
 pub use seaters::Outcome;
 pub use seaters::Seater;

@@ -4,6 +4,7 @@ ghost use Rattle.std.specs.Of.Vec.{vec-items};
 ghost use Rattle.std.specs.Vec.{made};
 ghost use Rattle.placement.specs.Seatings.{Seated, plan};
 ghost use Rattle.trials.specs.Trials.{Answers, Given};
+ghost use Rattle.seaters.specs.Worked.{Worked};
 ghost use Rattle.seaters.specs.ListOrders.{Decided, First-begun, In-list-order, list-order, list-order-means};
 use crate::seaters::Outcome;
 use crate::seaters::Seater;
@@ -32,7 +33,8 @@ fn counted(heap: Global, n: usize) -> Result<Vec<usize>, AllocError>
 }
 
 fn trials_decide(ring: Ring, pace: Pace, stays: &[Stay])
-    ensures { λ _. ⌜ Decided (ring .ticks) (pace .p) (pace .q) (now (stays .entry)) ⌝ }
+    ensures worked { λ _. ⌜ Worked ⌝ }
+    ensures decided { λ _. ⌜ Decided (ring .ticks) (pace .p) (pace .q) (now (stays .entry)) ⌝ }
 {}
 
 // Tries the list in its own order.
