@@ -4,6 +4,8 @@
 // A reader has to believe what a kind takes before and after its position (specs/Kinds), the rule
 // of a radius (specs/Radii), and the bounds that the two questions ask for (specs/Asked).
 
+#![tactic(auto)]
+
 mod kinds;
 mod radii;
 mod raw;

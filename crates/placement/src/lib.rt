@@ -5,6 +5,8 @@
 // lawful seatings are exactly the placements in which no two stays overlap, counted by what they
 // cover (specs/Arcs), and what turning, leaving out, narrowing and a smaller pace keep (specs/Keeps).
 
+#![tactic(auto)]
+
 mod seatings;
 mod stays;
 mod windows;

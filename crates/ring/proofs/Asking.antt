@@ -1,5 +1,5 @@
 -- Of any list of questions: one number at most, and never both a yes to all and a first no.
-use Rattle.std.proofs.Common.{◌≡◌, ℕ, List, [], ◌∷◌, sym, ◌∙◌, inl, inr}
+use Rattle.std.proofs.Common.{List, [], ◌∷◌, sym, ◌∙◌, inl, inr}
 use Rattle.ring.specs.Questions.{Question, OneNumber, YesOrNo}
 
 pub one_number : (qs : List Question) → OneNumber qs

@@ -1,7 +1,7 @@
 -- Euclid's steps, and fractions in lowest terms.
-use Rattle.std.proofs.Common.{◌≡◌, ℕ, zero, suc, ◌+◌, ◌-◌, ◌*◌, ◌/◌, ◌%◌, ◌<◌, ◌≤◌, sym, refl, ap, ◌∙◌, subst, mul-le-mul_right, mul_assoc, mul_comm, add-mul, one-mul, div-add-mod', zero-mul, mul-add, mul-div_cancel, mul_left_comm, arith}
+use Rattle.std.proofs.Common.{◌≡◌, ℕ, zero, suc, ◌+◌, ◌-◌, ◌*◌, ◌/◌, ◌%◌, ◌≤◌, sym, ap, ◌∙◌, mul-le-mul_right, mul_assoc, mul_comm, add-mul, div-add-mod', zero-mul, mul-div_cancel, mul_left_comm, arith}
 use native.Mathlib.Nat.{mul-sub, eq_of_mul-eq-mul_right}
-use Rattle.ring.specs.Fractions.{Multiple, Divisor, Reduced, Lowest}
+use Rattle.ring.specs.Fractions.{Multiple, Divisor, Reduced}
 
 -- What Euclid's steps keep: the divisors that p and q have in common.
 pub record Euclid (p q x y : ℕ) : Type 0 where

@@ -5,6 +5,7 @@
 // an ordered list, and the first no gives the number (specs/Questions). specs/Faults has how a
 // refusal is told of a file: by layer, record and number. specs/Fractions has when a fraction is in
 // lowest terms.
+#![tactic(auto)]
 
 mod faults;
 mod fractions;

@@ -15,8 +15,8 @@ pub trait Questioned {
 
 // Of any questions: no two numbers are that of the first no, and there is none where all say yes.
 fn one_answer<Q: Questioned>(asked: &Q)
-    ensures number { OneNumber (questions asked.now) }
-    ensures either { YesOrNo (questions asked.now) }
+    ensures number { OneNumber (Q.questions asked.now) }
+    ensures either { YesOrNo (Q.questions asked.now) }
 {
     let _ = asked;
 }
@@ -24,7 +24,7 @@ fn one_answer<Q: Questioned>(asked: &Q)
 // The number by which it is refused, none where it is granted. Whatever the questions are, it is
 // the only number of a first no, and nothing is both granted and refused.
 pub fn refused_by<Q: Questioned>(asked: &Q) -> Option<u8>
-    ensures { MatchOption result (Granted (questions asked.now)) (λ n. RefusedBy (questions asked.now) n) }
+    ensures { MatchOption result (Granted (Q.questions asked.now)) (λ n. RefusedBy (Q.questions asked.now) n) }
 {
     one_answer(asked);
     match asked.ask() {
