@@ -1,6 +1,8 @@
 // Compares the seaters and the leeway with trying everything, on many small lists. For each seater, alone
 // and under layers, it prints how many lists were seated, not granted and not taken, and the first list
 // on which it and the rules disagree, where there is one; then how many orders have a leeway.
+#![tactic(auto)]
+
 mod cases;
 mod compare;
 mod definition;

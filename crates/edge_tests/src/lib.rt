@@ -1,6 +1,8 @@
 // Tests at the edges of the bounds. Files are written here by shifts, apart from the reader's own way
 // of taking bits.
 
+#![tactic(auto)]
+
 #[cfg(test)]
 mod files {
     use ring::Refusal;

@@ -1,5 +1,7 @@
 // Prints what stands in a round file: the header, one line for each record, the bytes left over, and
 // the fault where there is one. Reads the file from standard input.
+#![tactic(auto)]
+
 use anyhow::anyhow;
 use jobs::Kind;
 use ring::{Fault, Refusal};

@@ -1,6 +1,6 @@
 -- The rule of the table of radii, from one test over the whole table to each value, and that a
 -- value has one radius.
-use Rattle.std.proofs.Common.{◌≡◌, ℕ, zero, suc, ◌+◌, ◌*◌, ◌<◌, ◌≤◌, Bool, true, false, T, ltb, leb, List, [], ◌∷◌, length, get_or, sym, ◌∙◌, subst, le_of_suc-le-suc, not-suc-le-zero, add-zero, add-suc, mul-le-mul, suc-add, zero-add, arith, ltb→lt, leb→le}
+use Rattle.std.proofs.Common.{ℕ, zero, suc, ◌+◌, ◌*◌, ◌<◌, ◌≤◌, Bool, true, false, T, ltb, leb, List, [], ◌∷◌, length, get_or, sym, ◌∙◌, subst, le_of_suc-le-suc, not-suc-le-zero, add-zero, add-suc, mul-le-mul, suc-add, zero-add, arith, ltb→lt, leb→le}
 use native.Mathlib.Decide.{dec_lt}
 use Rattle.jobs.specs.Radii.{Radius, OneRadius, both, every, is_radius}
 

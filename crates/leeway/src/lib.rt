@@ -4,6 +4,8 @@
 // A reader has to believe what the leeway is (specs/Leeways). Proved above it: what is true of leeways
 // whatever the list (specs/Laws), and leeways worked by hand (specs/Worked).
 
+#![tactic(auto)]
+
 mod leeways;
 
 pub use leeways::{NoLeeway, Tightest, leeway, tightest_seating};

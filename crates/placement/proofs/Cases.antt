@@ -1,5 +1,5 @@
 -- The worked seatings.
-use Rattle.std.proofs.Common.{◌≡◌, ℕ, ◌+◌, ◌*◌, ◌<◌, ◌≤◌, List, [], ◌∷◌, length, get_or, refl, subst, arith, lit<, lit≤}
+use Rattle.std.proofs.Common.{ℕ, ◌+◌, ◌*◌, ◌≤◌, List, [], ◌∷◌, length, get_or, refl, subst, arith, lit<, lit≤}
 use Rattle.placement.specs.declared.stays.Stay.{Stay}
 use Rattle.placement.specs.Stays.{no_stay}
 use Rattle.placement.specs.Seatings.{Plan, Seated, Lawful, Order, planned}

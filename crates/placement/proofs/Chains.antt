@@ -1,5 +1,5 @@
 -- A seating as a chain: from each stay to the next, and closed round the ring.
-use Rattle.std.proofs.Common.{◌≡◌, ℕ, zero, suc, ◌+◌, ◌-◌, ◌*◌, ◌/◌, ◌%◌, ◌<◌, ◌≤◌, List, [], ◌∷◌, ◌++◌, map, length, get_or, sym, refl, ap, ◌∙◌, subst, mul-le-mul_left, mul-add, arith}
+use Rattle.std.proofs.Common.{◌≡◌, ℕ, zero, suc, ◌+◌, ◌*◌, ◌<◌, ◌≤◌, List, [], ◌∷◌, length, get_or, refl, ap, mul-add, arith}
 use native.Mathlib.Nat.{le_of_mul-le-mul_left}
 use Rattle.placement.specs.Windows.{Holds}
 use Rattle.placement.specs.Stays.{Apart, no_stay}

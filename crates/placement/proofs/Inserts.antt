@@ -1,5 +1,5 @@
 -- A stay at a position, put into a chain.
-use Rattle.std.proofs.Common.{◌≡◌, ℕ, zero, suc, ◌+◌, ◌-◌, ◌*◌, ◌/◌, ◌%◌, ◌<◌, ◌≤◌, ◌⊎◌, List, [], ◌∷◌, length, get_or, sym, refl, ap, ◌∙◌, subst, inl, inr, mod-lt, mul-le-mul_left, mul-suc, mul-add, arith}
+use Rattle.std.proofs.Common.{◌≡◌, ℕ, suc, ◌+◌, ◌-◌, ◌*◌, ◌/◌, ◌%◌, ◌<◌, ◌≤◌, ◌⊎◌, List, [], ◌∷◌, length, sym, refl, ap, inl, inr, mod-lt, mul-le-mul_left, mul-suc, mul-add, arith}
 use native.Mathlib.Nat.{mul-div-le, lt_of_mul-lt-mul_left, div-add-mod, add-mod_right}
 use Rattle.placement.specs.Stays.{Apart}
 use Rattle.placement.specs.declared.stays.Stay.{Stay}

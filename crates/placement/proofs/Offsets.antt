@@ -1,6 +1,6 @@
 -- How far round the ring times lie past a window's first position. Only this file looks into the
 -- formula of a window.
-use Rattle.std.proofs.Common.{◌≡◌, ℕ, zero, suc, ◌+◌, ◌-◌, ◌*◌, ◌/◌, ◌%◌, ◌<◌, ◌≤◌, sym, refl, ap, ◌∙◌, mod-lt, mod-eq_of_lt, add-mul, arith}
+use Rattle.std.proofs.Common.{◌≡◌, ℕ, ◌+◌, ◌-◌, ◌*◌, ◌/◌, ◌%◌, ◌<◌, ◌≤◌, sym, ap, ◌∙◌, mod-lt, mod-eq_of_lt, add-mul, arith}
 use native.Mathlib.Nat.{add-mod_right, mod-add-mod, mod_self, add-mul-mod_self_right}
 use native.Mathlib.Decide.{dec_lt, dec_le}
 use lib.Arith.{digits_mod}

@@ -2,13 +2,13 @@
 -- each other round the ring do not overlap. The other way, stay 0 is put first and every other at the
 -- least time of its position after it; two that do not overlap come one after the other, so they are
 -- put into the chain from stay 0 to itself one ring later, one by one.
-use Rattle.std.proofs.Common.{◌≡◌, ℕ, zero, suc, ◌+◌, ◌-◌, ◌*◌, ◌/◌, ◌%◌, ◌<◌, ◌≤◌, ◌⊎◌, List, [], ◌∷◌, length, get_or, sym, refl, ap, ◌∙◌, subst, inl, inr, mod-eq_of_lt, mul-pos, mul-add, arith}
+use Rattle.std.proofs.Common.{◌≡◌, ℕ, zero, suc, ◌+◌, ◌*◌, ◌%◌, ◌<◌, ◌≤◌, ◌⊎◌, List, [], ◌∷◌, length, get_or, sym, refl, ap, ◌∙◌, subst, inl, inr, mod-eq_of_lt, mul-pos, mul-add, arith}
 use native.Mathlib.Nat.{mod-mod, add-mod_right}
 use native.Mathlib.Decide.{dec_lt}
 use Rattle.placement.specs.Windows.{Holds}
 use Rattle.placement.specs.Stays.{Apart, StayBounds, no_stay}
 use Rattle.placement.specs.Seatings.{Plan, Order, Seated, Lawful, kth, planned}
-use Rattle.placement.specs.Arcs.{Covers, Overlap, OverlapsItself, Fits, InBounds, Positions, PrintedRule, OneRider}
+use Rattle.placement.specs.Arcs.{Covers, Overlap, Fits, InBounds, Positions, PrintedRule, OneRider}
 use Rattle.placement.specs.declared.stays.Stay.{Stay}
 use Rattle.placement.proofs.Offsets.{holds_mod}
 use Rattle.placement.proofs.Chains.{Chain, stays, windows, closed_seated, chain_weaker, chain_holds, lawful_on, lawful_round}

@@ -1,9 +1,9 @@
 -- A lawful seating is determined by its positions.
-use Rattle.std.proofs.Common.{◌≡◌, ℕ, zero, suc, ◌+◌, ◌-◌, ◌*◌, ◌/◌, ◌%◌, ◌<◌, ◌≤◌, List, [], ◌∷◌, length, get_or, sym, refl, ap, ◌∙◌, subst, mul-le-mul, arith, ext_get_or}
+use Rattle.std.proofs.Common.{◌≡◌, ℕ, zero, suc, ◌+◌, ◌*◌, ◌/◌, ◌%◌, ◌<◌, ◌≤◌, List, length, get_or, sym, ap, ◌∙◌, subst, mul-le-mul, arith, ext_get_or}
 use native.Mathlib.Decide.{dec_lt, ℕ_discrete}
 use Rattle.std.proofs.lemmas.Nat.{div-add-mod'}
-use Rattle.placement.specs.Stays.{Apart, no_stay, StayBounds}
-use Rattle.placement.specs.Seatings.{Plan, Order, Seated, Lawful, kth, place_of, planned, time_of, position_of}
+use Rattle.placement.specs.Stays.{Apart, no_stay}
+use Rattle.placement.specs.Seatings.{Plan, Seated, Lawful, place_of, time_of, position_of}
 use Rattle.placement.specs.Arcs.{InBounds}
 use Rattle.placement.specs.declared.stays.Stay.{Stay}
 use Rattle.placement.proofs.Offsets.{mod_is}

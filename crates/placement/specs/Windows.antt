@@ -1,5 +1,5 @@
 -- Windows on a ring of C ticks.
-use Rattle.std.specs.Prelude.{◌≡◌, ℕ, ◌+◌, ◌-◌, ◌%◌, ◌<◌, ◌≤◌}
+use Rattle.std.specs.Prelude.{ℕ, ◌+◌, ◌-◌, ◌%◌, ◌≤◌}
 use Rattle.placement.specs.declared.windows.Window.{Window}
 
 -- How far round the ring the time x lies past the window's first position.

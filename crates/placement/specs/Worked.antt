@@ -1,5 +1,5 @@
 -- Seatings worked by hand.
-use Rattle.std.specs.Prelude.{ℕ, List, [], ◌∷◌}
+use Rattle.std.specs.Prelude.{ℕ, [], ◌∷◌}
 use Rattle.placement.specs.Seatings.{Plan, Lawful, planned}
 use Rattle.placement.specs.declared.stays.Stay.{Stay}
 

@@ -5,6 +5,8 @@
 // and the questions of a file (specs/Format), and what reading a record gives (specs/Reading)
 // and a whole file (specs/Listed).
 
+#![tactic(auto)]
+
 mod bits;
 mod cursors;
 mod headers;

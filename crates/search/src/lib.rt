@@ -7,6 +7,8 @@
 // least end is kept, one that can no longer be completed is dropped, and so is a next stay before
 // which another fits.
 
+#![tactic(auto)]
+
 mod layers;
 mod partials;
 mod puts;

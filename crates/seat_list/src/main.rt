@@ -1,6 +1,8 @@
 // Seats the jobs of a round file in the file's order, and prints its work: each trial with its times,
 // up to the first that closes, and the seating with its leeway, or that there is none. Reads the file
 // from standard input.
+#![tactic(auto)]
+
 use anyhow::anyhow;
 use jobs::Kind;
 use leeway::{NoLeeway, leeway};

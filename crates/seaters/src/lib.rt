@@ -5,6 +5,8 @@
 // seater here takes, grants and gives (specs/ListOrders, specs/Layers). Everything above a seater
 // rests on the rules that all of them keep, and on nothing else about it.
 
+#![tactic(auto)]
+
 mod depot;
 mod list_order;
 mod margin;

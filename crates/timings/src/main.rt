@@ -1,5 +1,7 @@
 // Seats some hard lists and prints the answers. With the argument `times` it also prints how long each
 // answer took, in microseconds.
+#![tactic(auto)]
+
 mod lists;
 
 use anyhow::anyhow;

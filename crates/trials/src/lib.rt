@@ -5,6 +5,8 @@
 // A reader has to believe what a trial is and when it closes (specs/Trials). Proved above it: the list
 // can be seated in the order exactly if some trial closes.
 
+#![tactic(auto)]
+
 mod attempts;
 mod next;
 mod tries;

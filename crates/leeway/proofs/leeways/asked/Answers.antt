@@ -33,10 +33,10 @@ returns c =
     let os = c.args.order.now in
     let e = c.whole-zero.ensures in
     let some : 0 < length l = search rules in
-    let d = subst (λ q. Decided C 0 q l os) e.1 (subst (λ p. Decided C p c.whole-zero.result.under l os) e.0 c.trials-decide.ensures) in
-    let a = subst (λ q. Tried-answers C 0 q l os c.in-ok-try-order.field-0) e.1 (subst (λ p. Tried-answers C p c.whole-zero.result.under l os c.in-ok-try-order.field-0) e.0 c.in-ok-try-order.ensures.answers) in
-    let t = at_zero C l os some d c.greatest-settles.ensures.settled in
-    let to : (x : Tried) (r : Result (Unit {0}) NoLeeway) → c.in-ok-try-order.field-0 ≡ x → r ≡ told_of x → Told C l os r = λ x r i j. subst (Told C l os) (sym j) (t x (subst (λ y. Tried-answers C 0 1 l os y) i a)) in
+    let d = subst (λ q. Decided C 0 q l os) e.1 (subst (λ p. Decided C p c.whole-zero.result.under l os) e.0 c.trials_decide.ensures) in
+    let a = subst (λ q. Tried-answers C 0 q l os c.in_ok-try_order.field-0) e.1 (subst (λ p. Tried-answers C p c.whole-zero.result.under l os c.in_ok-try_order.field-0) e.0 c.in_ok-try_order.ensures.answers) in
+    let t = at_zero C l os some d c.greatest_settles.ensures.settled in
+    let to : (x : Tried) (r : Result (Unit {0}) NoLeeway) → c.in_ok-try_order.field-0 ≡ x → r ≡ told_of x → Told C l os r = λ x r i j. subst (Told C l os) (sym j) (t x (subst (λ y. Tried-answers C 0 1 l os y) i a)) in
     elim c.match-branch-2.branch [
       | in-OutOfBounds w ↦ to OutOfBounds c.match-branch-2.result w.in-OutOfBounds.is w.result-is
       | in-NotAnOrder w ↦ to NotAnOrder c.match-branch-2.result w.in-NotAnOrder.is w.result-is

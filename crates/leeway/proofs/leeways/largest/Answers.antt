@@ -12,8 +12,8 @@ loop-high-preserved c =
     let os = c.args.order.now in
     let g = c.args.from.under in
     let mid = c.loop-high.low + (c.loop-high.high - c.loop-high.low) / 2 in
-    let e = c.with-over.ensures in
-    let fails : SeatsIn C mid g l os → ⊥ = λ s. not_both c.if-branch.false (c.in-ok-seats.ensures.1 (subst (λ n. SeatsIn C n c.with-over.result.under l os) (sym e.0) (subst (λ n. SeatsIn C mid n l os) (sym e.1) s))) in
+    let e = c.with_over.ensures in
+    let fails : SeatsIn C mid g l os → ⊥ = λ s. not_both c.if-branch.false (c.in_ok-seats.ensures.1 (subst (λ n. SeatsIn C n c.with_over.result.under l os) (sym e.0) (subst (λ n. SeatsIn C mid n l os) (sym e.1) s))) in
     (omega arith, omega arith, omega arith, v.3, λ x h s. below C g mid x l os c.args.from.whole fails s)
 
 pub returns : goal.returns

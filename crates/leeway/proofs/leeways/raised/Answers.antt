@@ -22,7 +22,7 @@ returns-then-not-branch c =
     let r = c.in-Some.next in
     let is = c.in-Some.ensures in
     let whole : 1 ≤ c.args.gap = omega (arith, is.1, r.whole) in
-    let fails : SeatsIn C r.over c.args.gap l os → ⊥ = λ s. not_both c.if-not-branch.true (c.in-ok-seats.ensures.1 (subst (λ n. SeatsIn C r.over n l os) (sym is.1) s)) in
+    let fails : SeatsIn C r.over c.args.gap l os → ⊥ = λ s. not_both c.if-not-branch.true (c.in_ok-seats.ensures.1 (subst (λ n. SeatsIn C r.over n l os) (sym is.1) s)) in
     same_raised C l os c.args.best c.args.gap c.requires.1 (λ x h s. omega (arith, e, is.0, below C c.args.gap r.over x l os whole fails s))
 
 pub returns : goal.returns
@@ -32,7 +32,7 @@ returns c =
     let os = c.args.order.now in
     let e = next c.over.result c.under.result c.args.gap c.args.best.over c.args.best.under c.over.ensures c.under.ensures in
     let is = c.in-Some.ensures in
-    let m = c.in-ok-most.ensures in
-    let w = c.with-over.ensures in
-    let large = subst (λ n. Largest C n l os c.with-over.result.over) is.1 (subst (λ n. Largest C c.in-Some.next.under l os n) (sym w.0) m.0) in
-    new_raised C l os c.args.best c.with-over.result c.args.gap c.requires.1 (omega (arith, e, is.0, m.1, w.0)) (w.1 ∙ is.1) large
+    let m = c.in_ok-most.ensures in
+    let w = c.with_over.ensures in
+    let large = subst (λ n. Largest C n l os c.with_over.result.over) is.1 (subst (λ n. Largest C c.in-Some.next.under l os n) (sym w.0) m.0) in
+    new_raised C l os c.args.best c.with_over.result c.args.gap c.requires.1 (omega (arith, e, is.0, m.1, w.0)) (w.1 ∙ is.1) large

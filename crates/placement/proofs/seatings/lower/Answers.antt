@@ -5,7 +5,7 @@ use Rattle.placement.proofs.seatings.lower.Goals as goal
 
 pub loop-t-preserved : goal.loop-t-preserved
 loop-t-preserved c =
-    over_more (λ u. u - c.args.base) c.args.times.now c.loop-t.times c.loop-t.t-index c.saturating-sub.result (omega arith) c.loop-t.auto.times c.loop-t.invariant c.saturating-sub.ensures
+    over_more (λ u. u - c.args.base) c.args.times.now c.loop-t.times c.loop-t.t-index c.saturating_sub.result (omega arith) c.loop-t.auto.times c.loop-t.invariant c.saturating_sub.ensures
 
 pub returns : goal.returns
 returns c =

@@ -8,13 +8,13 @@ below n i w h k l =
     let p : 2 ^ i ≤ 2 ^ 19 = pow_mono m in
     omega arith
 
-pub overflow-mul-number : goal.overflow-mul-number
-overflow-mul-number c =
+pub overflow_mul-number : goal.overflow_mul-number
+overflow_mul-number c =
     let p = below c.loop-i.number c.loop-i.i c.args.width c.loop-i.invariant.1 c.loop-i-test.true c.requires.1.1 in
     record { fits = omega arith }
 
-pub overflow-add-number : goal.overflow-add-number
-overflow-add-number c =
+pub overflow_add-number : goal.overflow_add-number
+overflow_add-number c =
     let p = below c.loop-i.number c.loop-i.i c.args.width c.loop-i.invariant.1 c.loop-i-test.true c.requires.1.1 in
     record { fits = omega arith }
 
@@ -27,10 +27,10 @@ unfolding field
 loop-i-preserved c =
     let p = pow-suc 2 c.loop-i.i in
     let v = c.loop-i.invariant.0 in
-    let b = c.bit-at.ensures.value in (
+    let b = c.bit_at.ensures.value in (
       rw add-one (cc),
       rw add-one (omega (arith, p)),
     )
 
 pub returns : goal.returns
-returns c = record { value = search rules; small = search rules; octets = λ k. (c.type-inv.fixed k).fits }
+returns c = record { value = search rules; small = search rules; octets = λ k. (c.type_inv.fixed k).fits }

@@ -10,13 +10,13 @@ returns c =
     let bs : List ℕ = c.args.bytes.now in
     let place : ℕ = c.args.cursor.now.place in
     let whole : place + size_at bs place ≤ length bs = search rules in
-    let said : Said bs place (told c.in-ok-record.record) = search rules in
-    let fixed : c.in-ok-take-part.field-0.now ≡ part bs place 10 = search rules in
-    let octets = subst (λ (l : List ℕ). Octets l) fixed c.numbers-of-numbers.ensures.octets in (
+    let said : Said bs place (told c.in_ok-record.record) = search rules in
+    let fixed : c.in_ok-take_part.field-0.now ≡ part bs place 10 = search rules in
+    let octets = subst (λ (l : List ℕ). Octets l) fixed c.numbers_of-numbers.ensures.octets in (
       search rules,
       record {
         said = said;
-        written = entry_written bs place (told c.in-ok-record.record) octets whole said;
+        written = entry_written bs place (told c.in_ok-record.record) octets whole said;
       },
       search rules,
       search rules,

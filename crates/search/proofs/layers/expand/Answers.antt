@@ -12,8 +12,8 @@ loop-j-preserved-then-has c =
     expanded_skip c.args.task.ring.ticks c.args.task.pace.p c.args.task.pace.q c.args.task.stays.now c.args.hi a.set a.end c.args.soon c.loop-j.j (vec_items c.args.arena.now.partials) (vec_items c.loop-j.arena.partials) c.loop-j.invariant (λ z. omega (arith, z, c.if-has.ensures.0 refl))
 
 -- No stay that is left ends past the room.
-pub loop-j-preserved-in-default : goal.loop-j-preserved-in-default
-loop-j-preserved-in-default c =
+pub loop-j-preserved-in_default : goal.loop-j-preserved-in_default
+loop-j-preserved-in_default c =
     let C = c.args.task.ring.ticks in
     let p = c.args.task.pace.p in
     let q = c.args.task.pace.q in
@@ -25,7 +25,7 @@ loop-j-preserved-in-default c =
     let D : Partial → Type 0 = λ v. Soonest C p q l c.args.room v.set v.end (length l) c.args.soon in
     let d = subst D (sym is) c.requires.alive in
     expanded_skip C p q l c.args.hi a.set a.end c.args.soon j old (vec_items c.loop-j.arena.partials) c.loop-j.invariant
-    (λ z. let r = d.each j c.loop-j-test.true z in omega (arith, r.3, c.in-default.ensures r.0 r.1.holds r.1.after))
+    (λ z. let r = d.each j c.loop-j-test.true z in omega (arith, r.3, c.in_default.ensures r.0 r.1.holds r.1.after))
 
 pub loop-j-preserved-then-waits : goal.loop-j-preserved-then-waits
 loop-j-preserved-then-waits c =
@@ -50,7 +50,7 @@ loop-j-preserved c =
     let is : a ≡ nth old i = get_or_read old i a (omega arith) c.index.ensures no_partial in
     let b : Partial = record { set = c.with.result; end = put.end; last = j; time = put.time; parent = i } in
     let z = not_held a.set j c.if-has.ensures.1 in
-    expanded_more C p q l c.args.hi a.set a.end c.args.soon j old (vec_items c.loop-j.arena.partials) (vec_items c.keep.new.self.partials) b put.time c.loop-j.invariant (omega arith) z (ap (λ (v : Partial). v.set) (sym is)) (ap (λ (v : Partial). v.end) (sym is)) c.requires.place.0 refl refl (c.with.ensures.joined (omega (arith, c.args.task.few))) f.next f.ends c.in-ok-keep.ensures
+    expanded_more C p q l c.args.hi a.set a.end c.args.soon j old (vec_items c.loop-j.arena.partials) (vec_items c.keep.new.self.partials) b put.time c.loop-j.invariant (omega arith) z (ap (λ (v : Partial). v.set) (sym is)) (ap (λ (v : Partial). v.end) (sym is)) c.requires.place.0 refl refl (c.with.ensures.joined (omega (arith, c.args.task.few))) f.next f.ends c.in_ok-keep.ensures
 
 pub returns : goal.returns
 returns c =

@@ -9,37 +9,37 @@ pub returns-then-t-task : goal.returns-then-t-task
 returns-then-t-task c = λ good os ts s.
     omega (arith, seated_below c.args.task.ring.ticks c.args.task.pace.p c.args.task.pace.q c.args.task.stays.now c.args.t _ os ts s, c.if-t-task.true)
 
-pub returns-in-default : goal.returns-in-default
-returns-in-default c = λ good os ts s.
-    omega (arith, seated_lead c.args.task.ring.ticks c.args.task.pace.p c.args.task.pace.q c.args.task.stays.now c.args.t _ os ts s, c.in-default.ensures)
+pub returns-in_default : goal.returns-in_default
+returns-in_default c = λ good os ts s.
+    omega (arith, seated_lead c.args.task.ring.ticks c.args.task.pace.p c.args.task.pace.q c.args.task.stays.now c.args.t _ os ts s, c.in_default.ensures)
 
 pub returns-in-None : goal.returns-in-None
 returns-in-None c = λ good os ts s.
     let l = c.args.task.stays.now in
     let room = c.in-Some.room in
-    let lo = c.in-ok-lo.lo in
+    let lo = c.in_ok-lo.lo in
     let N : List Partial → Type 0 = λ ps. (x : ℕ) → lo ≤ x → x < length ps → Full (length l) room (nth ps x) → ⊥ in
-    none_full c.args.task.ring.ticks c.args.task.pace.p c.args.task.pace.q l room c.args.t lo c.root.result (vec_items c.restart.new.self.partials) (vec_items c.grow.new.arena.partials) c.in-Some.ensures c.root.ensures c.in-ok-restart.ensures c.in-ok-lo.ensures os ts (subst N c.deref.ensures.value c.in-None.ensures) s
+    none_full c.args.task.ring.ticks c.args.task.pace.p c.args.task.pace.q l room c.args.t lo c.root.result (vec_items c.restart.new.self.partials) (vec_items c.grow.new.arena.partials) c.in-Some.ensures c.root.ensures c.in_ok-restart.ensures c.in_ok-lo.ensures os ts (subst N c.deref.ensures.value c.in-None.ensures) s
 
-pub read-back-requires : goal.read-back-requires
-read-back-requires c =
+pub read_back-requires : goal.read_back-requires
+read_back-requires c =
     let new = vec_items c.grow.new.arena.partials in
-    let i = c.in-Some-find-full.i in
+    let i = c.in-Some-find_full.i in
     let F : List Partial → Type 0 = λ ps. i < length ps in
     let P : List Partial → Type 0 = λ ps. (i < length ps) × ((x : ℕ) → x < length ps → 0 < x → (nth ps x).parent < x) in
-    let below : i < length new = subst F c.deref.ensures.value c.in-Some-find-full.ensures.0 in
-    subst P (sym c.deref-in-Some-find-full.ensures.value) (below, sound_parent c.args.task.ring.ticks c.args.task.pace.p c.args.task.pace.q c.args.task.stays.now c.in-Some.room (length new) new c.in-ok-lo.ensures.sound)
+    let below : i < length new = subst F c.deref.ensures.value c.in-Some-find_full.ensures.0 in
+    subst P (sym c.deref-in-Some-find_full.ensures.value) (below, sound_parent c.args.task.ring.ticks c.args.task.pace.p c.args.task.pace.q c.args.task.stays.now c.in-Some.room (length new) new c.in_ok-lo.ensures.sound)
 
-pub returns-in-ok-read-back : goal.returns-in-ok-read-back
-returns-in-ok-read-back c = λ good.
+pub returns-in_ok-read_back : goal.returns-in_ok-read_back
+returns-in_ok-read_back c = λ good.
     let l = c.args.task.stays.now in
     let t = c.args.t in
     let room = c.in-Some.room in
-    let i = c.in-Some-find-full.i in
-    let os = vec_items c.in-ok-read-back.field-0.order in
-    let ts = vec_items c.in-ok-read-back.field-0.times in
+    let i = c.in-Some-find_full.i in
+    let os = vec_items c.in_ok-read_back.field-0.order in
+    let ts = vec_items c.in_ok-read_back.field-0.times in
     let F : List Partial → Type 0 = λ ps. (i < length ps) × Full (length l) room (nth ps i) in
     let R : List Partial → Type 0 = λ ps. Reads ps i os ts in
-    let full = subst F c.deref.ensures.value c.in-Some-find-full.ensures in
-    let reads = subst R c.deref-in-Some-find-full.ensures.value c.in-ok-read-back.ensures in
-    full_seated c.args.task.ring.ticks c.args.task.pace.p c.args.task.pace.q l room t c.in-ok-lo.lo c.root.result (vec_items c.restart.new.self.partials) (vec_items c.grow.new.arena.partials) c.in-Some.ensures c.root.ensures c.in-ok-restart.ensures c.in-ok-lo.ensures i os ts (omega arith) (good t (omega arith)).from full.1 reads
+    let full = subst F c.deref.ensures.value c.in-Some-find_full.ensures in
+    let reads = subst R c.deref-in-Some-find_full.ensures.value c.in_ok-read_back.ensures in
+    full_seated c.args.task.ring.ticks c.args.task.pace.p c.args.task.pace.q l room t c.in_ok-lo.lo c.root.result (vec_items c.restart.new.self.partials) (vec_items c.grow.new.arena.partials) c.in-Some.ensures c.root.ensures c.in_ok-restart.ensures c.in_ok-lo.ensures i os ts (omega arith) (good t (omega arith)).from full.1 reads

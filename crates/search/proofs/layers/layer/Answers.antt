@@ -5,7 +5,7 @@ use Rattle.search.specs.declared.partials.Arena.{Arena}
 use Rattle.search.specs.declared.partials.Partial.{Partial}
 use Rattle.search.proofs.Growing.{layered_more, layered_dead, layered_all}
 use Rattle.search.proofs.layers.layer.Goals as goal
-use Rattle.search.proofs.layers.layer.Goals.{in-Some+in-ok-expand, in-default}
+use Rattle.search.proofs.layers.layer.Goals.{in-Some+in_ok-expand, in_default}
 
 pub expand-requires : goal.expand-requires
 expand-requires c =
@@ -17,7 +17,7 @@ expand-requires c =
     let mid = vec_items c.loop-i.arena.partials in
     let i = c.loop-i.i in
     let a = c.index-a.result.now in
-    let n : c.len-hi.result ≡ length old = omega (arith, c.len-hi.ensures, c.args.arena.now.partials.ok.0, ap length c.in-ok-widen.ensures) in
+    let n : c.len-hi.result ≡ length old = omega (arith, c.len-hi.ensures, c.args.arena.now.partials.ok.0, ap length c.in_ok-widen.ensures) in
     let y = c.loop-i.invariant in
     let is : a ≡ nth mid i = get_or_read mid i a (omega (arith, y.long)) c.index-a.ensures no_partial in
     let S : ℕ → Type 0 = λ h. Sound C p q l h mid in
@@ -39,20 +39,20 @@ loop-i-preserved c =
     let mid = vec_items c.loop-i.arena.partials in
     let i = c.loop-i.i in
     let a = c.index-a.result.now in
-    let n : c.len-hi.result ≡ length old = omega (arith, c.len-hi.ensures, c.args.arena.now.partials.ok.0, ap length c.in-ok-widen.ensures) in
+    let n : c.len-hi.result ≡ length old = omega (arith, c.len-hi.ensures, c.args.arena.now.partials.ok.0, ap length c.in_ok-widen.ensures) in
     let y = c.loop-i.invariant in
     let hi : i < length old = omega arith in
     let is : a ≡ nth mid i = get_or_read mid i a (omega (arith, y.long)) c.index-a.ensures no_partial in
     let E : Arena → Type 0 = λ v. Layered C p q l room c.args.lo (i + 1) old (vec_items v.partials) in
     elim c.match-soonest.branch [
-      | in-Some+in-ok-expand w ↦
+      | in-Some+in_ok-expand w ↦
           let D : Partial → Type 0 = λ v. Soonest C p q l room v.set v.end (length l) w.in-Some.soon in
           let X : ℕ → Type 0 = λ h. Expanded C p q l h (nth mid i).set (nth mid i).end w.in-Some.soon (length l) mid (vec_items w.expand.new.arena.partials) in
-          subst E (sym w.arena-is) (layered_more C p q l room c.args.lo i w.in-Some.soon old mid (vec_items w.expand.new.arena.partials) hi y (subst D is w.in-Some.ensures) (subst X n w.in-ok-expand.ensures))
-      | in-default w ↦
+          subst E (sym w.arena-is) (layered_more C p q l room c.args.lo i w.in-Some.soon old mid (vec_items w.expand.new.arena.partials) hi y (subst D is w.in-Some.ensures) (subst X n w.in_ok-expand.ensures))
+      | in_default w ↦
           let G = λ (o : _). Looked C p q l room a.set a.end o in
           let D : Partial → Type 0 = λ v. Dead C p q l room v.set v.end in
-          subst E (sym w.arena-is) (layered_dead C p q l room c.args.lo i old mid hi y (subst D is (subst G w.in-default.is c.soonest.ensures)))
+          subst E (sym w.arena-is) (layered_dead C p q l room c.args.lo i old mid hi y (subst D is (subst G w.in_default.is c.soonest.ensures)))
     ]
 
 pub returns : goal.returns
@@ -64,5 +64,5 @@ returns c =
     let old = vec_items c.widen.new.self.partials in
     let new = vec_items c.loop-i.arena.partials in
     let P : List Partial → Type 0 = λ v. Layered C p q l c.args.room c.args.lo (length v) v new in
-    let n : c.len-hi.result ≡ length old = omega (arith, c.len-hi.ensures, c.args.arena.now.partials.ok.0, ap length c.in-ok-widen.ensures) in
-    subst P c.in-ok-widen.ensures (layered_all C p q l c.args.room c.args.lo c.loop-i.i old new (omega arith) c.loop-i.invariant)
+    let n : c.len-hi.result ≡ length old = omega (arith, c.len-hi.ensures, c.args.arena.now.partials.ok.0, ap length c.in_ok-widen.ensures) in
+    subst P c.in_ok-widen.ensures (layered_all C p q l c.args.room c.args.lo c.loop-i.i old new (omega arith) c.loop-i.invariant)

@@ -15,8 +15,8 @@ loop-i-preserved c =
     let a = nth ps i in
     let b : i < length ps = c.loop-i.invariant.0 in
     let z : 0 < i = omega arith in
-    let eo = reverse_push (vec_items c.loop-i.order) (vec_items c.push.new.self) a.last c.in-ok-push.ensures.items in
-    let et = reverse_push (vec_items c.loop-i.times) (vec_items c.push-in-loop-i.new.self) a.time c.in-ok-push-2.ensures.items in (
+    let eo = reverse_push (vec_items c.loop-i.order) (vec_items c.push.new.self) a.last c.in_ok-push.ensures.items in
+    let et = reverse_push (vec_items c.loop-i.times) (vec_items c.push-in-loop-i.new.self) a.time c.in_ok-push-2.ensures.items in (
       omega (arith, c.requires.1 i b z),
       λ C p q l room so w.
           let O : List ℕ → Type 0 = λ v. Whole C p q l room (nth ps a.parent).set (nth ps a.parent).end v (a.time ∷ reverse (vec_items c.loop-i.times)) in
@@ -30,8 +30,8 @@ returns c = λ C p q l room so w.
     let b = nth ps 0 in
     let os = reverse (vec_items c.loop-i.order) in
     let ts = reverse (vec_items c.loop-i.times) in
-    let eo = c.reverse.ensures.items ∙ reverse_push (vec_items c.loop-i.order) (vec_items c.push-2.new.self) b.last c.in-ok-push-3.ensures.items in
-    let et = c.reverse-2.ensures.items ∙ reverse_push (vec_items c.loop-i.times) (vec_items c.push-3.new.self) b.time c.in-ok-push-4.ensures.items in
+    let eo = c.reverse.ensures.items ∙ reverse_push (vec_items c.loop-i.order) (vec_items c.push-2.new.self) b.last c.in_ok-push-3.ensures.items in
+    let et = c.reverse-2.ensures.items ∙ reverse_push (vec_items c.loop-i.times) (vec_items c.push-3.new.self) b.time c.in_ok-push-4.ensures.items in
     let W : ℕ → Type 0 = λ i. Whole C p q l room (nth ps i).set (nth ps i).end os ts in
     let O : List ℕ → Type 0 = λ v. Begins C p q l room b v (b.time ∷ ts) in
     let T : List ℕ → Type 0 = λ v. Begins C p q l room b (vec_items c.reverse.new.self) v in

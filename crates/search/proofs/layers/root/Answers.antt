@@ -7,13 +7,13 @@ pub returns : goal.returns
 returns c =
     let t = c.args.t in
     let m = c.empty.result in
-    let put = c.put-first-put.result in
+    let put = c.put_first-put.result in
     let s = c.args.stay.now in
     let none = c.empty.ensures in
     let P : ℕ → Type 0 = λ y. put.end ≡ end_of c.args.pace.p c.args.pace.q s y in
     record {
       only = λ j. omega (arith, joined_held m c.with.result t j (c.with.ensures.joined c.requires) (free m t (none t)), free m j (none j));
       last = refl;
-      time = c.put-first-put.ensures.time;
-      ends = subst P c.put-first-put.ensures.time c.put-first-put.ensures.ends;
+      time = c.put_first-put.ensures.time;
+      ends = subst P c.put_first-put.ensures.time c.put_first-put.ensures.ends;
     }

@@ -13,26 +13,26 @@ returns-then-low-room c =
     let F : ℕ → ℕ → Type 0 = λ p q. Late C p q c.args.room c.args.end c.args.stay.now in
     at_pace F _ _ _ _ c.p-p.ensures c.q-q.ensures (late_low C c.p-p.result c.q-q.result c.args.room c.args.end c.args.stay.now (omega arith) c.if-low-room.true)
 
-pub returns-in-err-time : goal.returns-in-err-time
-returns-in-err-time c =
+pub returns-in_err-time : goal.returns-in_err-time
+returns-in_err-time c =
     let C = c.args.ring.ticks in
     let F : ℕ → ℕ → Type 0 = λ p q. Late C p q c.args.room c.args.end c.args.stay.now in
-    rw c.from-residual.ensures (at_pace F _ _ _ _ c.p-p.ensures c.q-q.ensures (late_none C c.p-p.result c.q-q.result c.args.room c.args.end c.args.stay.now (omega arith) (omega arith) c.in-err-time.ensures))
+    rw c.from-residual.ensures (at_pace F _ _ _ _ c.p-p.ensures c.q-q.ensures (late_none C c.p-p.result c.q-q.result c.args.room c.args.end c.args.stay.now (omega arith) (omega arith) c.in_err-time.ensures))
 
 pub returns-then-ends-room : goal.returns-then-ends-room
 returns-then-ends-room c =
     let C = c.args.ring.ticks in
     let F : ℕ → ℕ → Type 0 = λ p q. Late C p q c.args.room c.args.end c.args.stay.now in
-    at_pace F _ _ _ _ c.p-p.ensures c.q-q.ensures (late_end C c.p-p.result c.q-q.result c.args.room c.args.end c.args.stay.now (omega arith) c.in-ok-time.time c.in-ok-time.ensures c.if-ends-room.true)
+    at_pace F _ _ _ _ c.p-p.ensures c.q-q.ensures (late_end C c.p-p.result c.q-q.result c.args.room c.args.end c.args.stay.now (omega arith) c.in_ok-time.time c.in_ok-time.ensures c.if-ends-room.true)
 
 pub returns : goal.returns
 returns c =
     let C = c.args.ring.ticks in
-    let y : ℕ = c.in-ok-time.time in
+    let y : ℕ = c.in_ok-time.time in
     let f : ℕ = c.q-q.result * y + c.p-p.result * c.args.stay.now.trail in
     let F : ℕ → ℕ → Type 0 = λ p q. Fitted C p q c.args.room c.args.end c.args.stay.now y f in
     at_pace F _ _ _ _ c.p-p.ensures c.q-q.ensures (record {
-      next = next_is C c.p-p.result c.q-q.result c.args.room c.args.end c.args.stay.now (omega arith) y c.in-ok-time.ensures;
+      next = next_is C c.p-p.result c.q-q.result c.args.room c.args.end c.args.stay.now (omega arith) y c.in_ok-time.ensures;
       ends = refl;
       within = c.if-ends-room.false;
     })

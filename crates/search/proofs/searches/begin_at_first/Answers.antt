@@ -5,5 +5,5 @@ use Rattle.search.proofs.searches.begin_at_first.Goals as goal
 pub returns : goal.returns
 unfolding Lawful
 returns c =
-    let b = c.begin-again.ensures.keeps c.args.pace.p c.args.pace.q c.args.stays.now (omega arith) c.requires.1 c.requires.0 in
+    let b = c.begin_again.ensures.keeps c.args.pace.p c.args.pace.q c.args.stays.now (omega arith) c.requires.1 c.requires.0 in
     (b.seated, b.begins)

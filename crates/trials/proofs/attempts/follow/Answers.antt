@@ -7,8 +7,8 @@ use Rattle.trials.proofs.Firsts.{least_exists, trial_time}
 use Rattle.trials.proofs.attempts.follow.Goals as goal
 
 -- A follower that has no time of 64 bits.
-pub returns-in-default-next-time : goal.returns-in-default-next-time
-returns-in-default-next-time c =
+pub returns-in_default-next_time : goal.returns-in_default-next_time
+returns-in_default-next_time c =
     let C = c.args.ring.ticks in
     let p = c.args.ratio.over in
     let q = c.args.ratio.under in
@@ -18,7 +18,7 @@ returns-in-default-next-time c =
     let v = c.loop-k.invariant in
     let e : c.in-Some.stay.now ≡ get_or l (get_or os k 0) no_stay = search rules in
     let m = least_exists C p q l c.args.ring.bounds.0 c.args.ratio.whole c.loop-k.last c.loop-k.at c.in-Some.stay.now in
-    let late : 2 ^ 64 ≤ m.0 = c.in-default-next-time.ensures m.0 m.1.holds m.1.apart in
+    let late : 2 ^ 64 ≤ m.0 = c.in_default-next_time.ensures m.0 m.1.holds m.1.apart in
     let m' : Least C p q c.loop-k.last c.loop-k.at (get_or l (get_or os k 0) no_stay) m.0 = (rw e at m).1 in
     λ below ts f small.
     omega (arith, late, small k c.loop-k-test.true, trial_time C p q l c.args.ring.bounds.0 c.args.ratio.whole k os (vec_items c.loop-k.times) ts c.loop-k.last c.loop-k.at m.0 c.loop-k-test.true v.0 v.1 v.2 m' f)
@@ -32,11 +32,11 @@ loop-k-preserved c =
     let os = c.args.order.now in
     let k = c.loop-k.k in
     let v = c.loop-k.invariant in
-    let y = c.in-Some-next-time.time in
+    let y = c.in-Some-next_time.time in
     let is : c.in-Some.stay.now ≡ get_or l (get_or os k 0) no_stay = search rules in
-    let m : Least C p q c.loop-k.last c.loop-k.at c.in-Some.stay.now y = c.in-Some-next-time.ensures in
+    let m : Least C p q c.loop-k.last c.loop-k.at c.in-Some.stay.now y = c.in-Some-next_time.ensures in
     let m' : Least C p q c.loop-k.last c.loop-k.at (get_or l (get_or os k 0) no_stay) y = rw is at m in
-    let e : vec_items c.push-in-loop-k.new.self ≡ vec_items c.loop-k.times ++ y ∷ [] = c.in-ok-push-2.ensures.items in
+    let e : vec_items c.push-in-loop-k.new.self ≡ vec_items c.loop-k.times ++ y ∷ [] = c.in_ok-push-2.ensures.items in
     let s : k + 1 ≡ suc k = omega arith in (
       rw (s, e) (trial_next C p q l k os (vec_items c.loop-k.times) c.loop-k.last c.loop-k.at y c.loop-k-test.true v.0 v.1 v.2 m'),
       rw s (last_next C p q l k os c.loop-k-test.true) ∙ sym is,

@@ -1,4 +1,4 @@
-use Rattle.std.proofs.Common.{◌≡◌, ℕ, ◌^◌, ◌<◌, List, sym, subst, arith, rules, eqb-true}
+use Rattle.std.proofs.Common.{ℕ, List, sym, subst, arith, eqb-true}
 use Rattle.placement.specs.Seatings.{Sound, Small}
 use Rattle.placement.proofs.seatings.Seating.is_sound.Goals as goal
 
@@ -7,8 +7,8 @@ unfolding Sound
 returns-then-len c =
     let s = c.args.self.now in
     let P : List ℕ → Type 0 = λ ts. Small ts in (
-      (λ e. (omega (arith, c.if-len.true, c.len.ensures, c.len-2.ensures, s.order.ok.0, s.times.ok.0), subst P c.deref.ensures.value (c.all-small.ensures.0 e))),
-      λ h. c.all-small.ensures.1 (subst P (sym c.deref.ensures.value) h.1),
+      (λ e. (omega (arith, c.if-len.true, c.len.ensures, c.len-2.ensures, s.order.ok.0, s.times.ok.0), subst P c.deref.ensures.value (c.all_small.ensures.0 e))),
+      λ h. c.all_small.ensures.1 (subst P (sym c.deref.ensures.value) h.1),
     )
 
 pub returns-else-len : goal.returns-else-len

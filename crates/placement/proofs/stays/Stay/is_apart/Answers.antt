@@ -1,8 +1,8 @@
-use Rattle.std.proofs.Common.{ℕ, ◌+◌, ◌*◌, ◌^◌, ◌<◌, ◌≤◌, mul-le-mul, arith}
+use Rattle.std.proofs.Common.{ℕ, ◌+◌, ◌*◌, ◌^◌, ◌≤◌, mul-le-mul, arith}
 use Rattle.placement.proofs.stays.Stay.is_apart.Goals as goal
 
-pub overflow-add-result-2 : goal.overflow-add-result-2
-overflow-add-result-2 c =
+pub overflow_add-result-2 : goal.overflow_add-result-2
+overflow_add-result-2 c =
     let p : ℕ = c.over-p.result in
     let q : ℕ = c.under-q.result in
     let arms : ℕ = c.args.self.now.trail + c.args.next.now.lead in

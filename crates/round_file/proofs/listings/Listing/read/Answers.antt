@@ -54,10 +54,10 @@ module _ (bs : List ℕ) (ticks p q count : ℕ) (start end : Cursor) (k : Colle
         exact = (heads_exact, records_exact);
       }
 
-pub fault-of-fault-requires : goal.fault-of-fault-requires
-fault-of-fault-requires c =
+pub fault_of-fault-requires : goal.fault_of-fault-requires
+fault_of-fault-requires c =
     let bs : List ℕ = c.args.bytes.now in
-    let h = c.in-ok-header.header in
+    let h = c.in_ok-header.header in
     let o : AllYes (head_questions bs) × Opened bs h.ring.ticks h.pace.p h.pace.q h.count = search rules in
     let start = c.new-reader.result.cursor in
     let end = c.collect.new.reader.cursor in
@@ -68,10 +68,10 @@ fault-of-fault-requires c =
 pub returns : goal.returns
 returns c =
     let bs : List ℕ = c.args.bytes.now in
-    let h = c.in-ok-header.header in
+    let h = c.in_ok-header.header in
     let o : AllYes (head_questions bs) × Opened bs h.ring.ticks h.pace.p h.pace.q h.count = search rules in
     let start = c.new-reader.result.cursor in
     let end = c.collect.new.reader.cursor in
     let gave : Collects h.ring.ticks h.count bs start c.in-Ok.field-0 end = search rules in
     listed bs h.ring.ticks h.pace.p h.pace.q h.count start end c.in-Ok.field-0 o.0 o.1 c.new-reader.ensures.cursor.0 c.new-reader.ensures.cursor.1 gave
-    c.left-left.result c.fault-of-fault.result (search rules) (search rules)
+    c.left-left.result c.fault_of-fault.result (search rules) (search rules)
