@@ -1,23 +1,8 @@
 -- The two laws of packing, at the layouts of a header and of a record.
-use Rattle.std.proofs.Common.{◌≡◌, ℕ, ◌+◌, ◌<◌, ◌≤◌, List, [], ◌∷◌, ◌++◌, length, get_or, take, drop, sym, refl, ap, ◌∙◌, arith}
+use Rattle.std.proofs.Common.{◌≡◌, ℕ, ◌+◌, ◌≤◌, List, [], ◌∷◌, ◌++◌, length, get_or, take, drop, sym, refl, ap, ◌∙◌, arith}
 use Rattle.std.proofs.lemmas.List.{length-take-le, length-drop, take-append-drop, drop-drop, drop-take, take-take}
-use Rattle.round_file.specs.Bits.{Octets, field, fields, total, Fit, octets, packed}
-use Rattle.round_file.specs.Format.{
-  Head,
-  head_of,
-  head_at,
-  head_bytes,
-  head_widths,
-  HeadsExact,
-  Fixed,
-  fixed_of,
-  fixed_at,
-  fixed_bytes,
-  fixed_widths,
-  RecordsExact,
-  part,
-  size_at,
-}
+use Rattle.round_file.specs.Bits.{Octets, fields, total, Fit, octets, packed}
+use Rattle.round_file.specs.Format.{Head, head_at, head_bytes, head_widths, HeadsExact, Fixed, fixed_at, fixed_bytes, fixed_widths, RecordsExact, part, size_at}
 use Rattle.jobs.specs.Kinds.{kind_number}
 use Rattle.round_file.specs.Reading.{Entry, entry_bytes, Said}
 use Rattle.round_file.proofs.Packing.{read_again, written_again}

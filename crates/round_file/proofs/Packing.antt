@@ -1,5 +1,5 @@
 -- Packing and reading undo each other, in any layout that fills whole bytes.
-use Rattle.std.proofs.Common.{◌≡◌, ℕ, zero, suc, ◌+◌, ◌-◌, ◌*◌, ◌/◌, ◌%◌, ◌^◌, ◌<◌, ◌≤◌, List, [], ◌∷◌, ◌++◌, length, get_or, take, drop, sym, refl, ap, ◌∙◌, append_assoc, add-zero, add_assoc, add-suc, suc-add, pow-suc, zero-add, arith, length-append, drop-cons}
+use Rattle.std.proofs.Common.{◌≡◌, ℕ, zero, suc, ◌+◌, ◌-◌, ◌*◌, ◌/◌, ◌%◌, ◌^◌, ◌<◌, ◌≤◌, List, [], ◌∷◌, ◌++◌, length, get_or, take, drop, sym, refl, ap, ◌∙◌, append_assoc, add-zero, add_assoc, add-suc, pow-suc, zero-add, arith, length-append, drop-cons}
 use Rattle.std.proofs.lemmas.List.{append-nil, take_at, drop_at, take_all, length-take-le, take-append-drop}
 use Rattle.round_file.specs.Bits.{bit, field, fields, Octets, digits, packed, value, octets, total, Fit, ReadAgain, WrittenAgain}
 

@@ -1,5 +1,5 @@
 -- What stands in a whole file.
-use Rattle.std.specs.Prelude.{◌≡◌, ℕ, zero, suc, ◌+◌, ◌-◌, ◌<◌, ◌≤◌, ◌⊎◌, List, [], ◌∷◌, ◌++◌, map, length, take, Some, None, vec_items, Option}
+use Rattle.std.specs.Prelude.{◌≡◌, ℕ, zero, suc, ◌+◌, ◌-◌, ◌<◌, ◌⊎◌, List, [], ◌∷◌, ◌++◌, map, length, take, Some, None, vec_items, Option}
 use Rattle.std.specs.List.{flat_map}
 use Rattle.ring.specs.Questions.{AllYes, FirstNo}
 use Rattle.ring.specs.Refusals.{number_of}

@@ -1,12 +1,12 @@
 -- What reading a round file gives.
-use Rattle.std.specs.Prelude.{◌≡◌, ℕ, zero, suc, ◌+◌, ◌<◌, ◌≤◌, List, [], ◌∷◌, ◌++◌, length, Some, None, Ok, Err, Option, Result}
+use Rattle.std.specs.Prelude.{◌≡◌, ℕ, ◌+◌, ◌<◌, ◌≤◌, List, ◌++◌, length, Some, None, Ok, Err, Option, Result}
 use Rattle.ring.specs.Questions.{AllYes, FirstNo}
 use Rattle.ring.specs.Refusals.{number_of}
 use Rattle.ring.specs.declared.refusals.Refusal.{Refusal}
 use Rattle.jobs.specs.Kinds.{kind_number}
 use Rattle.jobs.specs.declared.kinds.Kind.{Kind}
 use Rattle.jobs.specs.declared.kinds.Kind.TheVariants as kinds
-use Rattle.round_file.specs.Format.{Fixed, fixed_at, fixed_bytes, part, size_at, record_questions}
+use Rattle.round_file.specs.Format.{fixed_at, fixed_bytes, part, size_at, record_questions}
 use Rattle.round_file.specs.declared.records.Record.{Record}
 use Rattle.round_file.specs.declared.records.Record.TheVariants.{PickUp, Drop, Zone}
 use Rattle.round_file.specs.declared.readers.Numbers.{Numbers}

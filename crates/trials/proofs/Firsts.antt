@@ -1,21 +1,20 @@
 -- The first trial that closes: there is one exactly if the list can be seated in the order, and it is
 -- such a seating.
-use Rattle.std.proofs.Common.{◌≡◌, ℕ, zero, suc, ◌+◌, ◌-◌, ◌*◌, ◌/◌, ◌<◌, ◌≤◌, ◌⊎◌, List, [], ◌∷◌, ◌++◌, length, get_or, take, drop, sym, refl, ap, ◌∙◌, subst, inl, inr, mul-le-mul_left, mul-add, arith, length-append, length-take}
+use Rattle.std.proofs.Common.{◌≡◌, ℕ, zero, suc, ◌+◌, ◌-◌, ◌*◌, ◌/◌, ◌<◌, ◌≤◌, ◌⊎◌, List, [], ◌∷◌, ◌++◌, length, get_or, take, sym, refl, ap, ◌∙◌, subst, inl, inr, mul-le-mul_left, mul-add, arith, length-append, length-take}
 use native.Mathlib.Decide.{dec_le, dec_lt}
 use Rattle.std.proofs.lemmas.List.{drop_at, take_at, get_or-append_right, get_or-take}
 use Rattle.placement.specs.Windows.{Holds}
-use Rattle.placement.specs.Stays.{Apart, no_stay}
-use Rattle.placement.specs.Seatings.{Plan, planned, Order, Seated, turned}
+use Rattle.placement.specs.Stays.{no_stay}
+use Rattle.placement.specs.Seatings.{planned, Order, Seated, turned}
 use Rattle.placement.specs.Arcs.{InBounds}
 use Rattle.placement.specs.declared.stays.Stay.{Stay}
 use Rattle.placement.proofs.Offsets.{offset_from, earliest_exists}
-use Rattle.placement.proofs.Chains.{Closed, stays, windows, closed_from, closed_seated}
-use Rattle.placement.proofs.Distinct.{Below, below_at}
+use Rattle.placement.proofs.Chains.{closed_from, closed_seated}
 use Rattle.placement.proofs.Inserts.{ceil_covers, ceil_least}
-use Rattle.placement.proofs.Orders.{order_turned, order_lists}
-use Rattle.trials.specs.Trials.{Least, Followers, Trial, Closes, First, Given, last_of}
-use Rattle.trials.proofs.Followers.{Fails, followers_chain, chain_closes, fails_open}
-use Rattle.trials.proofs.Starts.{Start, start}
+use Rattle.placement.proofs.Orders.{order_turned}
+use Rattle.trials.specs.Trials.{Least, Followers, Trial, Closes, First, last_of}
+use Rattle.trials.proofs.Followers.{Fails, followers_chain, chain_closes}
+use Rattle.trials.proofs.Starts.{start}
 use Rattle.trials.proofs.Pushes.{length_turned, trial_next, turned_head}
 
 module _ (C p q : ℕ) (l : List Stay) (hC : 1 ≤ C) (hq : 1 ≤ q) where

@@ -1,11 +1,10 @@
 -- A trial is nowhere later than any seating that begins as it does.
-use Rattle.std.proofs.Common.{◌≡◌, ℕ, zero, suc, ◌+◌, ◌-◌, ◌*◌, ◌<◌, ◌≤◌, List, [], ◌∷◌, ◌++◌, length, get_or, sym, refl, ap, ◌∙◌, subst, mul-le-mul_left, arith}
+use Rattle.std.proofs.Common.{ℕ, ◌+◌, ◌<◌, ◌≤◌, List, [], ◌∷◌, ◌++◌, get_or, sym, subst, mul-le-mul_left, arith}
 use Rattle.std.proofs.lemmas.List.{append-nil}
-use Rattle.placement.specs.Windows.{Holds}
 use Rattle.placement.specs.Stays.{Apart, no_stay}
 use Rattle.placement.specs.declared.stays.Stay.{Stay}
 use Rattle.placement.proofs.Chains.{Chain, stays, windows, apart_le}
-use Rattle.trials.specs.Trials.{Least, Followers, Trial, Closes, last_of}
+use Rattle.trials.specs.Trials.{Followers, Trial, Closes, last_of}
 
 -- An earlier start is apart as well.
 pub apart_earlier : (p q : ℕ) (a : Stay) (x x' : ℕ) (b : Stay) (y : ℕ) → x ≤ x' → Apart p q a x' b y → Apart p q a x b y

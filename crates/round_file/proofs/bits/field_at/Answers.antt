@@ -1,5 +1,5 @@
-use Rattle.std.proofs.Common.{◌≡◌, ℕ, suc, ◌+◌, ◌*◌, ◌^◌, ◌<◌, ◌≤◌, refl, ap, pow-suc, add-one, arith, lit<, pow_mono, rules}
-use Rattle.round_file.specs.Bits.{field, bit}
+use Rattle.std.proofs.Common.{ℕ, ◌^◌, ◌<◌, ◌≤◌, refl, pow-suc, add-one, arith, lit<, pow_mono, rules}
+use Rattle.round_file.specs.Bits.{field}
 use Rattle.round_file.proofs.bits.field_at.Goals as goal
 
 below : (n i w : ℕ) → n < 2 ^ i → i < w → w ≤ 20 → n < 2 ^ 19

@@ -1,8 +1,7 @@
-use Rattle.std.proofs.Common.{◌≡◌, ℕ, ◌-◌, ◌<◌, ◌≤◌, List, [], ◌∷◌, ◌++◌, map, Some, None, Ok, Err, vec_items, Option, Result, sym, subst, rules}
-use Rattle.std.proofs.lemmas.List.{append-nil}
+use Rattle.std.proofs.Common.{◌≡◌, ℕ, ◌-◌, List, [], ◌∷◌, ◌++◌, map, Some, None, Ok, Err, vec_items, Option, Result, sym, subst, rules}
 use Rattle.ring.specs.Refusals.{number_of}
 use Rattle.ring.specs.declared.refusals.Refusal.{Refusal}
-use Rattle.round_file.specs.Reading.{Entry, told, Next}
+use Rattle.round_file.specs.Reading.{told, Next}
 use Rattle.round_file.specs.Listed.{Reads, stop_number}
 use Rattle.round_file.specs.declared.cursors.Cursor.{Cursor}
 use Rattle.round_file.specs.declared.headers.Header.{Header}

@@ -1,7 +1,7 @@
-use Rattle.std.proofs.Common.{◌≡◌, ℕ, suc, ◌+◌, ◌^◌, ◌<◌, ◌≤◌, List, [], ◌∷◌, ◌++◌, length, get_or, take, vec_items, sym, refl, ap, ◌∙◌, subst, arith, rules}
+use Rattle.std.proofs.Common.{◌≡◌, suc, ◌+◌, ◌^◌, ◌≤◌, [], ◌∷◌, ◌++◌, get_or, vec_items, sym, ◌∙◌, subst, arith, rules}
 use Rattle.placement.specs.Stays.{Apart, no_stay}
 use Rattle.placement.specs.declared.stays.Stay.{Stay}
-use Rattle.trials.specs.Trials.{Trial, Least, last_of}
+use Rattle.trials.specs.Trials.{Least}
 use Rattle.trials.proofs.Pushes.{last_push, trial_next, last_next, whole}
 use Rattle.trials.proofs.Firsts.{least_exists, trial_time}
 use Rattle.trials.proofs.attempts.follow.Goals as goal

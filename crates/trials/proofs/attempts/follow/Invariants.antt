@@ -1,4 +1,4 @@
-use Rattle.std.proofs.Common.{◌≡◌, ℕ, ◌-◌, ◌<◌, ◌≤◌, length, get_or, take, vec_items}
+use Rattle.std.proofs.Common.{◌≡◌, get_or, take, vec_items}
 use Rattle.placement.specs.Stays.{no_stay}
 use Rattle.trials.specs.Trials.{Trial, last_of}
 use Rattle.trials.proofs.attempts.follow.Given as goal

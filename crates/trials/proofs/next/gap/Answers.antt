@@ -1,4 +1,4 @@
-use Rattle.std.proofs.Common.{◌≡◌, ℕ, ◌+◌, ◌-◌, ◌*◌, ◌/◌, ◌^◌, ◌<◌, ◌≤◌, sym, subst, mul-le-mul, mul-le-mul_left, mul-add, div-le_self, arith}
+use Rattle.std.proofs.Common.{ℕ, ◌+◌, ◌-◌, ◌*◌, ◌/◌, ◌^◌, ◌≤◌, sym, subst, mul-le-mul, mul-le-mul_left, mul-add, div-le_self, arith}
 use Rattle.placement.specs.Stays.{Apart}
 use Rattle.placement.specs.declared.stays.Stay.{Stay}
 use Rattle.placement.proofs.Inserts.{ceil_covers, ceil_least}

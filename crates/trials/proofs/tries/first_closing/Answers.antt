@@ -1,8 +1,8 @@
-use Rattle.std.proofs.Common.{◌≡◌, ℕ, ◌+◌, ◌^◌, ◌<◌, ◌≤◌, true, false, List, [], ◌∷◌, ◌++◌, length, get_or, take, vec_items, sym, refl, ap, ◌∙◌, subst, inl, inr, arith, rules, below_more}
+use Rattle.std.proofs.Common.{◌≡◌, ℕ, ◌+◌, ◌^◌, ◌<◌, ◌≤◌, true, false, [], ◌∷◌, ◌++◌, length, get_or, vec_items, sym, refl, ap, ◌∙◌, subst, inl, inr, arith, below_more}
 use Rattle.placement.specs.Stays.{Apart, no_stay}
 use Rattle.placement.specs.Seatings.{turned}
 use Rattle.trials.specs.Trials.{Found, First}
-use Rattle.trials.proofs.Followers.{Fails, open_fails, fails_open}
+use Rattle.trials.proofs.Followers.{open_fails, fails_open}
 use Rattle.trials.proofs.Pushes.{Place, last_push, turned_first, trial_more, last_more, late_more, whole_trial}
 use Rattle.trials.proofs.Firsts.{first_seated, least_exists, none_seated}
 use Rattle.trials.proofs.tries.first_closing.Goals as goal
@@ -36,11 +36,11 @@ trials-preserved-in_default c =
     let pl : Place (length os) t k i = elim c.if-t-k.branch [ then-t-k w ↦ inl (w.if-t-k.true, w.i-is) | else-t-k w ↦ inr (w.if-t-k.false, w.i-is) ] in
     let v = c.followers.invariant in
     let b = get_or l (get_or os i 0) no_stay in
-    let m = least_exists C p q l c.args.ring.bounds.0 c.args.ratio.whole c.followers.new c.followers.at b in
+    let m = least_exists C p q l c.args.ring.bounds.0 c.args.ratio.whole c.followers.last c.followers.at b in
     let late : 2 ^ 64 ≤ m.0 = c.in_default.ensures m.0 m.1.holds m.1.apart in
     let low : (get_or l (get_or os t 0) no_stay).window.from < C = (c.requires.0 (get_or os t 0) (c.requires.1.1 t (omega (arith, c.requires.1.0)))).from in (
       omega arith,
-      below_more _ _ c.trials.invariant.1 (late_more C p q l t k i os (vec_items c.followers.times) c.followers.new c.followers.at m.0 c.args.ratio.whole (omega arith) (omega arith) pl v.1 v.2 v.3 m.1 (omega (arith, late, low, c.args.ring.bounds.1))),
+      below_more _ _ c.trials.invariant.1 (late_more C p q l t k i os (vec_items c.followers.times) c.followers.last c.followers.at m.0 c.args.ratio.whole (omega arith) (omega arith) pl v.1 v.2 v.3 m.1 (omega (arith, late, low, c.args.ring.bounds.1))),
     )
 
 -- A follower that comes after the end.
@@ -57,7 +57,7 @@ trials-preserved-then-time-end c =
     let pl : Place (length os) t k i = elim c.if-t-k.branch [ then-t-k w ↦ inl (w.if-t-k.true, w.i-is) | else-t-k w ↦ inr (w.if-t-k.false, w.i-is) ] in
     let v = c.followers.invariant in (
       omega arith,
-      below_more _ _ c.trials.invariant.1 (late_more C p q l t k i os (vec_items c.followers.times) c.followers.new c.followers.at c.in-Some.time c.args.ratio.whole (omega arith) (omega arith) pl v.1 v.2 v.3 c.in-Some.ensures (omega (arith, c.if-time-end.true, c.ticks.ensures))),
+      below_more _ _ c.trials.invariant.1 (late_more C p q l t k i os (vec_items c.followers.times) c.followers.last c.followers.at c.in-Some.time c.args.ratio.whole (omega arith) (omega arith) pl v.1 v.2 v.3 c.in-Some.ensures (omega (arith, c.if-time-end.true, c.ticks.ensures))),
     )
 
 pub followers-preserved : goal.followers-preserved
@@ -76,7 +76,7 @@ followers-preserved c =
     let v = c.followers.invariant in
     let e : vec_items c.push-in-followers.new.self ≡ vec_items c.followers.times ++ c.in-Some.time ∷ [] = c.in_ok-push-2.ensures.items in (
       c.if-time-end.false,
-      rw e (trial_more C p q l t k i os (vec_items c.followers.times) c.followers.new c.followers.at c.in-Some.time ht hk pl v.1 v.2 v.3 c.in-Some.ensures),
+      rw e (trial_more C p q l t k i os (vec_items c.followers.times) c.followers.last c.followers.at c.in-Some.time ht hk pl v.1 v.2 v.3 c.in-Some.ensures),
       last_more C p q l t k i os ht hk pl,
       rw e (last_push 0 (vec_items c.followers.times) c.in-Some.time),
     )
@@ -92,8 +92,8 @@ trials-preserved c =
     let t = c.trials.tried in
     let v = c.followers.invariant in
     let first = get_or l (get_or os t 0) no_stay in
-    let P : ℕ → Type 0 = λ m. Apart p q c.followers.new c.followers.at first (first.window.from + m) in
-    let w = whole_trial C p q l t c.followers.k os (vec_items c.followers.times) c.followers.new c.followers.at (omega arith) c.followers-test.false v.1 v.2 v.3 in (
+    let P : ℕ → Type 0 = λ m. Apart p q c.followers.last c.followers.at first (first.window.from + m) in
+    let w = whole_trial C p q l t c.followers.k os (vec_items c.followers.times) c.followers.last c.followers.at (omega arith) c.followers-test.false v.1 v.2 v.3 in (
       omega arith,
       below_more _ _ c.trials.invariant.1 (open_fails C p q l (turned t os) (vec_items c.followers.times) w.0 (λ k. never (c.if-is_apart.ensures.1 (subst P (sym c.ticks.ensures) (w.2 k))))),
     )
@@ -114,8 +114,8 @@ returns c =
           let v = w.followers.invariant in
           let ht : t < length os = omega arith in
           let first = get_or l (get_or os t 0) no_stay in
-          let P : ℕ → Type 0 = λ m. Apart p q w.followers.new w.followers.at first (first.window.from + m) in
-          let f = whole_trial C p q l t w.followers.k os (vec_items w.followers.times) w.followers.new w.followers.at ht w.followers-test.false v.1 v.2 v.3 in
+          let P : ℕ → Type 0 = λ m. Apart p q w.followers.last w.followers.at first (first.window.from + m) in
+          let f = whole_trial C p q l t w.followers.k os (vec_items w.followers.times) w.followers.last w.followers.at ht w.followers-test.false v.1 v.2 v.3 in
           let is-first : First C p q l os t (vec_items w.followers.times) = record {
             place = ht;
             trial = f.0;
