@@ -1,13 +1,13 @@
 -- The leeways worked by hand.
-use Rattle.std.proofs.Common.{◌≡◌, ℕ, zero, suc, ◌+◌, ◌-◌, ◌*◌, ◌%◌, ◌<◌, ◌≤◌, List, [], ◌∷◌, length, get_or, sym, refl, ap, ◌∙◌, subst, mul-le-mul_left, mul-add, arith, lit<, lit≤}
+use Rattle.std.proofs.Common.{◌≡◌, ℕ, ◌+◌, ◌-◌, ◌*◌, ◌%◌, ◌<◌, ◌≤◌, List, [], ◌∷◌, get_or, refl, ap, ◌∙◌, mul-le-mul_left, mul-add, arith, lit<, lit≤}
 use native.Mathlib.Nat.{le_of_mul-le-mul_left}
 use native.Mathlib.Decide.{dec_le}
-use Rattle.placement.specs.Seatings.{planned, Order, Seated}
+use Rattle.placement.specs.Seatings.{Order, Seated}
 use Rattle.placement.specs.Worked.{trailing, leading}
 use Rattle.placement.specs.declared.stays.Stay.{Stay}
-use Rattle.placement.proofs.Chains.{Closed, closed_seated, stays, windows}
+use Rattle.placement.proofs.Chains.{closed_seated}
 use Rattle.placement.proofs.Orders.{lists_order}
-use Rattle.leeway.specs.Leeways.{SeatsIn, IsLeeway}
+use Rattle.leeway.specs.Leeways.{SeatsIn}
 use Rattle.leeway.specs.Worked.{WorkedLeeways}
 
 two : Order 2 (0 ∷ 1 ∷ [])

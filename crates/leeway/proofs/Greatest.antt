@@ -1,9 +1,8 @@
 -- The greatest fraction is one of the order's own, so the greatest over all its gaps is it.
-use Rattle.std.proofs.Common.{◌≡◌, ℕ, zero, suc, ◌+◌, ◌-◌, ◌*◌, ◌/◌, ◌<◌, ◌≤◌, Bool, true, false, List, length, get_or, sym, refl, ap, ◌∙◌, subst, mul-le-mul_right, mul_comm, mul-le-mul, zero-mul, arith, below_more}
+use Rattle.std.proofs.Common.{◌≡◌, ℕ, zero, suc, ◌+◌, ◌*◌, ◌/◌, ◌<◌, ◌≤◌, Bool, true, false, List, length, sym, ap, ◌∙◌, subst, mul-le-mul_right, mul-le-mul, zero-mul, arith, below_more}
 use native.Mathlib.Decide.{dec_lt}
-use Rattle.ring.specs.Fractions.{AtMost, Lowest, Reduced}
+use Rattle.ring.specs.Fractions.{Lowest}
 use Rattle.ring.specs.declared.measures.Ratio.{Ratio}
-use Rattle.placement.specs.Seatings.{planned, Order, Seated}
 use Rattle.placement.specs.declared.stays.Stay.{Stay}
 use Rattle.leeway.specs.Leeways.{SeatsIn, IsLeeway, Asked, gap_at, Largest, Kept, Bounds, Raised, Greatest, Settled}
 use Rattle.leeway.proofs.Ratios.{through, under_next, over_next}

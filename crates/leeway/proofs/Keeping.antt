@@ -1,13 +1,12 @@
 -- What a smaller fraction, a stay left out and a narrowed window do to the seatings in an order.
-use Rattle.std.proofs.Common.{◌≡◌, ℕ, zero, suc, ◌+◌, ◌-◌, ◌*◌, ◌<◌, ◌≤◌, true, false, cond, eqb, List, [], ◌∷◌, map, length, get_or, set, sym, refl, ap, ◌∙◌, subst, arith}
+use Rattle.std.proofs.Common.{◌≡◌, ℕ, suc, ◌*◌, ◌<◌, ◌≤◌, true, false, cond, eqb, List, [], ◌∷◌, length, get_or, set, sym, refl, ap, ◌∙◌, subst, arith}
 use native.Mathlib.Nat.{eq_of_mul-eq-mul_right}
-use native.Mathlib.Decide.{dec_lt, ℕ_discrete}
+use native.Mathlib.Decide.{ℕ_discrete}
 use Rattle.std.specs.List.{remove}
 use Rattle.std.proofs.lemmas.List.{length-set, get_or-set_same, get_or-set_other}
-use Rattle.ring.specs.Fractions.{AtMost, Lowest}
 use Rattle.placement.specs.Windows.{Holds}
 use Rattle.placement.specs.Stays.{Narrowed, no_stay}
-use Rattle.placement.specs.Seatings.{planned, Order, Seated, Lawful, place_of, turned, begun, begun_again, left_out, without}
+use Rattle.placement.specs.Seatings.{Seated, Lawful, place_of, begun, begun_again, left_out, without}
 use Rattle.placement.specs.declared.stays.Stay.{Stay}
 use Rattle.placement.proofs.Easier.{seated_easier}
 use Rattle.placement.proofs.Leaving.{without_keeps}

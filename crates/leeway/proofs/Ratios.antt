@@ -1,6 +1,6 @@
 -- Fractions compared by the products across.
-use Rattle.std.proofs.Common.{◌≡◌, ℕ, zero, suc, ◌+◌, ◌*◌, ◌/◌, ◌%◌, ◌<◌, ◌≤◌, ◌⊎◌, sym, refl, ap, ◌∙◌, inl, inr, mul-le-mul_right, mod-lt, mul_assoc, mul_comm, mul-le-mul_left, mul-zero, mul-add, mul_left_comm, arith, below_more}
-use native.Mathlib.Nat.{le_of_mul-le-mul_left, div-add-mod, eq_of_mul-eq-mul_right}
+use Rattle.std.proofs.Common.{◌≡◌, ℕ, zero, suc, ◌+◌, ◌*◌, ◌/◌, ◌<◌, ◌≤◌, ◌⊎◌, ap, ◌∙◌, inl, inr, mul-le-mul_right, mod-lt, mul_assoc, mul_comm, mul-le-mul_left, mul-zero, mul-add, mul_left_comm, arith, below_more}
+use native.Mathlib.Nat.{le_of_mul-le-mul_left, div-add-mod}
 use native.Mathlib.Decide.{dec_le}
 
 -- p'/q' ≤ p/q and p/q ≤ d/g give p'/q' ≤ d/g.

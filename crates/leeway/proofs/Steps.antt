@@ -1,15 +1,15 @@
 -- The steps of a seating, from each stay to the next round its order.
-use Rattle.std.proofs.Common.{◌≡◌, ℕ, zero, suc, ◌+◌, ◌-◌, ◌*◌, ◌<◌, ◌≤◌, cond, ◌⊎◌, List, length, get_or, sym, refl, ap, ◌∙◌, subst, inl, inr, mul_comm, mul-zero, mul-add, arith, le-ltb, lt-ltb}
+use Rattle.std.proofs.Common.{◌≡◌, ℕ, suc, ◌+◌, ◌-◌, ◌*◌, ◌<◌, ◌≤◌, cond, ◌⊎◌, List, length, get_or, sym, ap, ◌∙◌, subst, inl, inr, mul_comm, mul-add, arith, le-ltb, lt-ltb}
 use native.Mathlib.Decide.{dec_lt}
-use Rattle.placement.specs.Stays.{Apart, StayBounds, no_stay}
-use Rattle.placement.specs.Seatings.{planned, Order, Seated, kth}
+use Rattle.placement.specs.Stays.{Apart}
+use Rattle.placement.specs.Seatings.{planned, Seated, kth}
 use Rattle.placement.specs.Keeps.{along}
 use Rattle.placement.specs.Arcs.{InBounds}
 use Rattle.placement.specs.declared.stays.Stay.{Stay}
 use Rattle.placement.proofs.Chains.{apart_le, lawful_on, lawful_round}
 use Rattle.placement.proofs.Steps.{along_here, along_past}
 use Rattle.leeway.specs.Leeways.{next_place, gap_at}
-use Rattle.leeway.proofs.Ratios.{LeastRatio, least_ratio}
+use Rattle.leeway.proofs.Ratios.{least_ratio}
 
 -- What comes after the k-th stay: the next in the order, or the first, one ring later.
 pub after : (C n k : ℕ) (ts : List ℕ) → length ts ≡ n → k < n → ((suc k < n) × (next_place n k ≡ suc k) × (along C ts (suc k) ≡ get_or ts (suc k) 0)) ⊎ ((suc k ≡ n) × (next_place n k ≡ 0) × (along C ts (suc k) ≡ get_or ts 0 0 + C))

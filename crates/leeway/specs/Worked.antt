@@ -1,5 +1,5 @@
 -- Leeways worked by hand, on a ring of 100.
-use Rattle.std.specs.Prelude.{ℕ, List, [], ◌∷◌}
+use Rattle.std.specs.Prelude.{[], ◌∷◌}
 use Rattle.placement.specs.Worked.{trailing, leading}
 use Rattle.leeway.specs.Leeways.{SeatsIn, IsLeeway}
 

@@ -1,11 +1,11 @@
 -- The lists worked by hand.
-use Rattle.std.proofs.Common.{◌≡◌, ℕ, zero, suc, ◌+◌, ◌-◌, ◌*◌, ◌%◌, ◌<◌, ◌≤◌, List, [], ◌∷◌, length, get_or, sym, refl, ap, ◌∙◌, subst, arith}
+use Rattle.std.proofs.Common.{◌≡◌, ℕ, ◌<◌, ◌≤◌, List, [], ◌∷◌, length, refl, subst, arith}
 use Rattle.placement.specs.Windows.{Holds}
-use Rattle.placement.specs.Stays.{Apart, no_stay}
+use Rattle.placement.specs.Stays.{Apart}
 use Rattle.placement.specs.Seatings.{Plan, planned, Seated, Lawful, turned, begun_again}
 use Rattle.placement.specs.Worked.{trailing}
 use Rattle.placement.specs.declared.stays.Stay.{Stay}
-use Rattle.trials.specs.Trials.{Least, Trial, Closes, First, Given, Closing}
+use Rattle.trials.specs.Trials.{Least, Trial, Closes, First}
 use Rattle.trials.proofs.Firsts.{trial_same}
 use Rattle.seaters.specs.ListOrders.{FirstBegun, InListOrder, order_of_list}
 use Rattle.seaters.specs.Worked.{WorkedLists, one_long}

@@ -1,7 +1,7 @@
 -- The depot above any seater keeps the rules.
-use Rattle.std.specs.Prelude.{◌≡◌, ℕ, zero, suc, ◌+◌, ◌-◌, ◌<◌, ◌≤◌, List, [], ◌∷◌, ◌++◌, length, ◌≢◌, slice_index_or, slice_set, refl}
+use Rattle.std.specs.Prelude.{◌≡◌, ℕ, zero, suc, ◌<◌, ◌≤◌, List, [], ◌∷◌, ◌++◌, length, ◌≢◌, slice_index_or, slice_set, refl}
 use Rattle.std.proofs.Common.{sym, ap, ◌∙◌, subst, inl, inr, arith, length-append}
-use Rattle.std.proofs.Math.Decide.{dec_lt, ℕ_discrete}
+use Rattle.std.proofs.Math.Decide.{dec_lt}
 use Rattle.std.specs.List.{remove}
 use Rattle.std.proofs.lemmas.List.Edits.{length-remove}
 use Rattle.std.proofs.lemmas.List.{length-set, get_or_append_left}
@@ -9,12 +9,12 @@ use Rattle.ring.specs.declared.measures.Ring.{Ring}
 use Rattle.ring.specs.declared.measures.Pace.{Pace}
 use Rattle.placement.specs.Windows.{Holds}
 use Rattle.placement.specs.Stays.{StayBounds, Narrowed, no_stay}
-use Rattle.placement.specs.Seatings.{Plan, planned, no_plan, Seated, Lawful, time_of, position_of, fallen, without}
+use Rattle.placement.specs.Seatings.{Plan, no_plan, Seated, Lawful, time_of, position_of, fallen, without}
 use Rattle.placement.specs.Keeps.{Left}
 use Rattle.placement.specs.Arcs.{InBounds}
 use Rattle.placement.specs.declared.stays.Stay.{Stay}
 use Rattle.placement.proofs.Offsets.{holds_mod}
-use Rattle.placement.proofs.Orders.{fallen_ways, fallen_below}
+use Rattle.placement.proofs.Orders.{fallen_ways}
 use Rattle.placement.proofs.Leaving.{empty_seated, without_keeps}
 use Rattle.placement.proofs.Unique.{determined}
 use Rattle.seaters.specs.Meanings.{Meaning, Rules}

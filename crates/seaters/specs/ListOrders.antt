@@ -2,7 +2,6 @@
 use Rattle.std.specs.Prelude.{◌≡◌, ℕ, ◌≤◌, List, length}
 use Rattle.std.specs.List.{range_with_len}
 use Rattle.ring.specs.declared.measures.Ring.{Ring}
-use Rattle.ring.specs.declared.measures.Pace.{Pace}
 use Rattle.placement.specs.Seatings.{Plan, planned, Order, Seated, Lawful, Sound, begun_again}
 use Rattle.placement.specs.Arcs.{InBounds}
 use Rattle.placement.specs.declared.stays.Stay.{Stay}

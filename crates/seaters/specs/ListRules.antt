@@ -1,5 +1,5 @@
 -- The seater that keeps the list's order keeps the rules.
-use Rattle.std.specs.Prelude.{◌≡◌, ℕ, zero, suc, ◌+◌, ◌-◌, ◌<◌, ◌≤◌, List, [], ◌∷◌, ◌++◌, map, length, slice_index_or, slice_set, refl}
+use Rattle.std.specs.Prelude.{◌≡◌, ℕ, ◌+◌, ◌-◌, ◌<◌, ◌≤◌, List, [], map, length, slice_index_or, slice_set, refl}
 use Rattle.std.proofs.Common.{sym, ◌∙◌}
 use Rattle.std.proofs.Math.Path.{ap, subst}
 use native.Mathlib.Omega.{arith}
@@ -7,21 +7,17 @@ use Rattle.std.proofs.Math.Decide.{dec_lt, ℕ_discrete}
 use Rattle.std.specs.List.{remove, range_with_len}
 use Rattle.std.proofs.lemmas.List.Edits.{length-remove, get_or-remove_below, get_or-remove_above}
 use Rattle.std.proofs.lemmas.List.{length-set, get_or-set_same, get_or-set_other}
-use Rattle.ring.specs.declared.measures.Ring.{Ring}
-use Rattle.ring.specs.declared.measures.Pace.{Pace}
-use Rattle.placement.specs.Windows.{Holds}
 use Rattle.placement.specs.Stays.{StayBounds, Narrowed, no_stay}
-use Rattle.placement.specs.Seatings.{Plan, planned, no_plan, Order, Seated, Lawful, Sound, place_of, time_of, turned, fallen, begun_again, left_out, without}
-use Rattle.placement.specs.Keeps.{Begun, Left}
+use Rattle.placement.specs.Seatings.{Plan, planned, no_plan, Seated, Lawful, place_of, turned, fallen, begun_again, left_out, without}
 use Rattle.placement.specs.Arcs.{InBounds}
 use Rattle.placement.specs.declared.stays.Stay.{Stay}
 use Rattle.placement.proofs.Easier.{lawful_narrowed, seated_sound}
 use Rattle.placement.proofs.Leaving.{empty_seated, without_keeps}
 use Rattle.placement.proofs.Steps.{begun_law}
-use Rattle.trials.specs.Trials.{Given, First, Closing}
+use Rattle.trials.specs.Trials.{Given}
 use Rattle.trials.proofs.Firsts.{first_exists, first_seated}
 use Rattle.seaters.specs.Meanings.{Rules}
-use Rattle.seaters.specs.ListOrders.{Takes, Decided, FirstBegun, InListOrder, order_of_list, list_order_means}
+use Rattle.seaters.specs.ListOrders.{Decided, FirstBegun, InListOrder, order_of_list, list_order_means}
 use Rattle.seaters.specs.Counting.{counting_order, counting_again, counting_left, counting_begun}
 
 -- A list within bounds stays so when a stay is left out, or a window narrowed.

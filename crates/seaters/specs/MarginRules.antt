@@ -1,7 +1,7 @@
 -- The margin above any seater keeps the rules.
-use Rattle.std.specs.Prelude.{◌≡◌, ℕ, zero, suc, ◌+◌, ◌-◌, ◌*◌, ◌<◌, ◌≤◌, List, [], ◌∷◌, ◌++◌, map, length, get_or, slice_index, slice_index_or, slice_set, refl}
+use Rattle.std.specs.Prelude.{◌≡◌, ℕ, zero, suc, ◌+◌, ◌<◌, ◌≤◌, List, [], ◌∷◌, map, length, get_or, slice_index, slice_index_or, slice_set, refl}
 use Rattle.std.proofs.Math.Path.{sym, ap, subst}
-use Rattle.std.proofs.Common.{◌∙◌, arith}
+use Rattle.std.proofs.Common.{arith}
 use Rattle.std.proofs.Math.Decide.{dec_lt, ℕ_discrete}
 use Rattle.std.specs.List.{remove}
 use Rattle.std.proofs.lemmas.List.Edits.{length-remove, get_or-remove_below, get_or-remove_above}
@@ -10,10 +10,10 @@ use Rattle.ring.specs.declared.measures.Ring.{Ring}
 use Rattle.ring.specs.declared.measures.Pace.{Pace}
 use Rattle.placement.specs.Windows.{Holds}
 use Rattle.placement.specs.Stays.{StayBounds, Narrowed, no_stay}
-use Rattle.placement.specs.Seatings.{Plan, planned, no_plan, Order, Seated, Lawful, kth, time_of, without}
+use Rattle.placement.specs.Seatings.{Plan, no_plan, Seated, Lawful, without}
 use Rattle.placement.specs.declared.stays.Stay.{Stay}
 use Rattle.placement.proofs.Easier.{stays_lawful}
-use Rattle.placement.proofs.Leaving.{empty_seated, without_keeps}
+use Rattle.placement.proofs.Leaving.{empty_seated}
 use Rattle.seaters.specs.Meanings.{Meaning, Rules}
 use Rattle.seaters.specs.Layers.{MarginLets, Widens, widened, margin_means}
 use Rattle.seaters.specs.ListRules.{left, narrowed_bounds}

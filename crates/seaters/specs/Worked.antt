@@ -1,5 +1,5 @@
 -- Lists worked by hand, in the list's order.
-use Rattle.std.specs.Prelude.{ℕ, List, [], ◌∷◌}
+use Rattle.std.specs.Prelude.{List, [], ◌∷◌}
 use Rattle.placement.specs.Seatings.{Plan, planned}
 use Rattle.placement.specs.Worked.{trailing}
 use Rattle.placement.specs.declared.stays.Stay.{Stay}

@@ -1,4 +1,4 @@
-use Rattle.std.proofs.Common.{◌≡◌, ℕ, ◌+◌, ◌-◌, ◌/◌, ◌<◌, ◌≤◌, sym, subst, arith}
+use Rattle.std.proofs.Common.{◌+◌, ◌-◌, ◌/◌, sym, subst, arith}
 use Rattle.leeway.specs.Leeways.{SeatsIn}
 use Rattle.leeway.proofs.Greatest.{below, not_both}
 use Rattle.leeway.proofs.leeways.largest.Goals as goal

@@ -1,4 +1,4 @@
-use Rattle.std.proofs.Common.{◌≡◌, ℕ, ◌+◌, ◌*◌, ◌/◌, ◌<◌, ◌≤◌, sym, refl, ap, ◌∙◌, subst, arith}
+use Rattle.std.proofs.Common.{◌≡◌, ℕ, ◌+◌, ◌*◌, ◌/◌, ◌≤◌, sym, ap, ◌∙◌, subst, arith}
 use Rattle.leeway.specs.Leeways.{SeatsIn, Largest}
 use Rattle.leeway.proofs.Greatest.{same_raised, new_raised, below, not_both}
 use Rattle.leeway.proofs.leeways.raised.Goals as goal

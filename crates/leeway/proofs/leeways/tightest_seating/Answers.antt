@@ -1,6 +1,6 @@
-use Rattle.std.proofs.Common.{◌≡◌, sym, subst}
-use Rattle.placement.specs.Seatings.{Seated, plan}
-use Rattle.trials.specs.Trials.{Answers, Given}
+use Rattle.std.proofs.Common.{subst}
+use Rattle.placement.specs.Seatings.{plan}
+use Rattle.trials.specs.Trials.{Answers}
 use Rattle.trials.specs.declared.tries.Tried.TheVariants.{Seats}
 use Rattle.leeway.proofs.leeways.tightest_seating.Goals as goal
 

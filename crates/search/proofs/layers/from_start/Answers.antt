@@ -30,8 +30,8 @@ read_back-requires c =
     let below : i < length new = subst F c.deref.ensures.value c.in-Some-find_full.ensures.0 in
     subst P (sym c.deref-in-Some-find_full.ensures.value) (below, sound_parent c.args.task.ring.ticks c.args.task.pace.p c.args.task.pace.q c.args.task.stays.now c.in-Some.room (length new) new c.in_ok-lo.ensures.sound)
 
-pub returns-in_ok-read_back : goal.returns-in_ok-read_back
-returns-in_ok-read_back c = λ good.
+pub returns-in_ok-read_back-in-Some-find_full : goal.returns-in_ok-read_back-in-Some-find_full
+returns-in_ok-read_back-in-Some-find_full c = λ good.
     let l = c.args.task.stays.now in
     let t = c.args.t in
     let room = c.in-Some.room in

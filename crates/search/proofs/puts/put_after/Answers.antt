@@ -17,7 +17,7 @@ pub returns-in_err-time : goal.returns-in_err-time
 returns-in_err-time c =
     let C = c.args.ring.ticks in
     let F : ℕ → ℕ → Type 0 = λ p q. Late C p q c.args.room c.args.end c.args.stay.now in
-    rw c.from-residual.ensures (at_pace F _ _ _ _ c.p-p.ensures c.q-q.ensures (late_none C c.p-p.result c.q-q.result c.args.room c.args.end c.args.stay.now (omega arith) (omega arith) c.in_err-time.ensures))
+    rw c.from_residual.ensures (at_pace F _ _ _ _ c.p-p.ensures c.q-q.ensures (late_none C c.p-p.result c.q-q.result c.args.room c.args.end c.args.stay.now (omega arith) (omega arith) c.in_err-time.ensures))
 
 pub returns-then-ends-room : goal.returns-then-ends-room
 returns-then-ends-room c =
