@@ -1,6 +1,5 @@
 -- The lists worked by hand.
-use Rattle.std.proofs.Common.{◌≡◌, ℕ, zero, suc, ◌+◌, ◌-◌, ◌*◌, ◌%◌, ◌<◌, ◌≤◌, List, [], ◌∷◌, length, get_or, sym, refl, ap, ◌∙◌, subst, arith, lit<, lit≤, length-append}
-use Rattle.placement.specs.Stays.{StayBounds, no_stay}
+use Rattle.std.proofs.Common.{◌≡◌, ℕ, zero, suc, ◌+◌, ◌*◌, ◌%◌, ◌<◌, ◌≤◌, List, [], ◌∷◌, length, get_or, sym, refl, ap, ◌∙◌, subst, arith, lit<, lit≤, length-append}
 use Rattle.placement.specs.Seatings.{Plan, planned, Order, Seated, Lawful, begun_again, left_out, without}
 use Rattle.placement.specs.Arcs.{InBounds}
 use Rattle.placement.specs.Worked.{trailing}

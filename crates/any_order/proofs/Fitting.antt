@@ -1,11 +1,11 @@
 -- A list can fit exactly if it has a lawful seating.
-use Rattle.std.proofs.Common.{◌≡◌, ℕ, ◌%◌, ◌<◌, ◌≤◌, List, length, get_or, sym, ap, ◌∙◌, subst, mod-lt, arith}
-use Rattle.placement.specs.Seatings.{Plan, Seated, Lawful}
+use Rattle.std.proofs.Common.{ℕ, ◌<◌, ◌≤◌, List, length, sym, subst, mod-lt}
+use Rattle.placement.specs.Seatings.{Seated, Lawful}
 use Rattle.placement.specs.Arcs.{InBounds, OnRing, PrintedRule}
 use Rattle.placement.specs.declared.stays.Stay.{Stay}
 use Rattle.placement.proofs.Leaving.{table, table_at, table_positions, length_table}
 use Rattle.placement.proofs.Riders.{printed}
-use Rattle.any_order.specs.AnyOrders.{CanFit, Fitting}
+use Rattle.any_order.specs.AnyOrders.{Fitting}
 
 pub fitting : (C p q : ℕ) (l : List Stay) → 1 ≤ C → 1 ≤ p → 1 ≤ q → InBounds C l → Fitting C p q l
 unfolding PrintedRule Seated Lawful

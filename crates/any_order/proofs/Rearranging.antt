@@ -1,5 +1,5 @@
 -- A list in another order fits exactly if it does.
-use Rattle.std.proofs.Common.{◌≡◌, ℕ, ◌+◌, ◌<◌, ◌≤◌, List, map, length, get_or, sym, refl, ap, ◌∙◌, subst, arith}
+use Rattle.std.proofs.Common.{◌≡◌, ℕ, ◌<◌, List, map, length, get_or, sym, ap, ◌∙◌, subst, arith}
 use Rattle.std.specs.List.{range_with_len}
 use Rattle.std.proofs.lemmas.List.FromFn.{get_or-map-range_with_len, length-map-range_with_len}
 use Rattle.std.proofs.lemmas.List.{get_or-map, length-map}
@@ -8,10 +8,10 @@ use Rattle.ring.specs.declared.measures.Pace.{Pace}
 use Rattle.placement.specs.Windows.{Holds}
 use Rattle.placement.specs.Stays.{StayBounds, no_stay}
 use Rattle.placement.specs.Seatings.{Plan, Order, place_of}
-use Rattle.placement.specs.Arcs.{Fits, InBounds, Overlap, OverlapsItself}
+use Rattle.placement.specs.Arcs.{InBounds, Overlap, OverlapsItself}
 use Rattle.placement.specs.declared.stays.Stay.{Stay}
 use Rattle.placement.proofs.Orders.{order_lists, place_is, place_order}
-use Rattle.any_order.specs.AnyOrders.{CanFit, TakesFew, AnyLawful, rearranged, SameAnswer}
+use Rattle.any_order.specs.AnyOrders.{CanFit, AnyLawful, rearranged, SameAnswer}
 use Rattle.any_order.proofs.Fitting.{fitting}
 
 -- Each stay of l' is a stay of l, the k-th the r k-th, and no two of them are the same one.

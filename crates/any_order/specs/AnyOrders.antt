@@ -1,5 +1,5 @@
 -- The seater that seats a list in any order.
-use Rattle.std.specs.Prelude.{◌≡◌, ℕ, ◌≤◌, List, map, length, Ok, Err, Result, slice_index_or}
+use Rattle.std.specs.Prelude.{ℕ, ◌≤◌, List, map, length, Ok, Err, Result, slice_index_or}
 use Rattle.std.specs.declared.alloc.AllocError.{AllocError}
 use Rattle.ring.specs.declared.measures.Ring.{Ring}
 use Rattle.ring.specs.declared.measures.Pace.{Pace}

@@ -1,5 +1,5 @@
 -- Lists worked by hand, in any order.
-use Rattle.std.specs.Prelude.{◌≡◌, ℕ, List, [], ◌∷◌, length}
+use Rattle.std.specs.Prelude.{◌≡◌, List, [], ◌∷◌, length}
 use Rattle.std.proofs.Common.{lit≤}
 use Rattle.ring.specs.declared.measures.Ring.{Ring}
 use Rattle.ring.specs.declared.measures.Pace.{Pace}

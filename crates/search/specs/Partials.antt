@@ -1,5 +1,5 @@
 -- Partial seatings, kept in a list layer after layer: those of one stay more come behind.
-use Rattle.std.specs.Prelude.{◌≡◌, ℕ, ◌+◌, ◌<◌, ◌≤◌, ◌⊎◌, List, [], ◌∷◌, ◌++◌, length, get_or, set, Some, None, Option, slice_index_or, slice_set}
+use Rattle.std.specs.Prelude.{◌≡◌, ℕ, ◌+◌, ◌<◌, ◌≤◌, ◌⊎◌, List, [], ◌∷◌, ◌++◌, length, get_or, Some, None, Option, slice_index_or, slice_set}
 use Rattle.placement.specs.Windows.{Holds}
 use Rattle.placement.specs.Stays.{no_stay}
 use Rattle.placement.specs.declared.stays.Stay.{Stay}

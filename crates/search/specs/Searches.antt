@@ -1,7 +1,7 @@
 -- What a search answers.
-use Rattle.std.specs.Prelude.{ℕ, ◌<◌, ◌≤◌, List, ◌∷◌, map, length, Some, None, Option, slice_index_or}
+use Rattle.std.specs.Prelude.{ℕ, ◌<◌, ◌≤◌, List, ◌∷◌, length, Some, None, Option, slice_index_or}
 use Rattle.placement.specs.Stays.{no_stay}
-use Rattle.placement.specs.Seatings.{Plan, plan, planned, Order, Seated, Lawful}
+use Rattle.placement.specs.Seatings.{Plan, plan, planned, Seated, Lawful}
 use Rattle.placement.specs.Arcs.{InBounds}
 use Rattle.placement.specs.declared.stays.Stay.{Stay}
 use Rattle.placement.specs.declared.seatings.Seating.{Seating}

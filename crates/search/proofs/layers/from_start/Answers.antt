@@ -36,10 +36,10 @@ returns-in_ok-read_back-in-Some-find_full c = λ good.
     let t = c.args.t in
     let room = c.in-Some.room in
     let i = c.in-Some-find_full.i in
-    let os = vec_items c.in_ok-read_back.field-0.order in
-    let ts = vec_items c.in_ok-read_back.field-0.times in
+    let os = vec_items c.in_ok-read_back-in-Some-find_full.field-0.order in
+    let ts = vec_items c.in_ok-read_back-in-Some-find_full.field-0.times in
     let F : List Partial → Type 0 = λ ps. (i < length ps) × Full (length l) room (nth ps i) in
     let R : List Partial → Type 0 = λ ps. Reads ps i os ts in
     let full = subst F c.deref.ensures.value c.in-Some-find_full.ensures in
-    let reads = subst R c.deref-in-Some-find_full.ensures.value c.in_ok-read_back.ensures in
+    let reads = subst R c.deref-in-Some-find_full.ensures.value c.in_ok-read_back-in-Some-find_full.ensures in
     full_seated c.args.task.ring.ticks c.args.task.pace.p c.args.task.pace.q l room t c.in_ok-lo.lo c.root.result (vec_items c.restart.new.self.partials) (vec_items c.grow.new.arena.partials) c.in-Some.ensures c.root.ensures c.in_ok-restart.ensures c.in_ok-lo.ensures i os ts (omega arith) (good t (omega arith)).from full.1 reads
