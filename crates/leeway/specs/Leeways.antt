@@ -7,9 +7,9 @@ use Rattle.placement.specs.Seatings.{Plan, plan, planned, Order, Seated, Lawful,
 use Rattle.placement.specs.Arcs.{InBounds}
 use Rattle.placement.specs.declared.stays.Stay.{Stay}
 use Rattle.ring.specs.Questions.{Tells}
-use Rattle.trials.specs.Trials.{Answers as Tried-answers, Given}
+use Rattle.trials.specs.Trials.{Answers as TriedAnswers, Given}
 use Rattle.trials.specs.declared.tries.Tried.{Tried}
-use Rattle.trials.specs.declared.tries.Tried.TheVariants.{OutOfBounds as Tried-out, NotAnOrder as Tried-none, Fails, Seats}
+use Rattle.trials.specs.declared.tries.Tried.TheVariants.{OutOfBounds as TriedOut, NotAnOrder as TriedNone, Fails, Seats}
 use Rattle.leeway.specs.declared.leeways.NoLeeway.{NoLeeway}
 use Rattle.leeway.specs.declared.leeways.Tightest.{Tightest}
 use Rattle.leeway.specs.declared.leeways.NoLeeway.TheVariants.{NoStay, OutOfBounds, NotAnOrder, NoRoom, NoMemory}
@@ -88,13 +88,13 @@ pub record Shown (C P Q : ℕ) (l : List Stay) (os : List ℕ) (s : Plan) : Type
 
 -- Trying an order of the list tells whether it has a seating in it.
 abbrev pub is_seated : Tried → Bool
-is_seated Tried-out = false
-is_seated Tried-none = false
+is_seated TriedOut = false
+is_seated TriedNone = false
 is_seated Fails = false
 is_seated (Seats s) = true
 
 pub record Decided (C p q : ℕ) (l : List Stay) (os : List ℕ) : Type 0 where
-  pub tells : (t : Tried) → Asked C l os → Tried-answers C p q l os t → Tells (is_seated t) (SeatsIn C p q l os)
+  pub tells : (t : Tried) → Asked C l os → TriedAnswers C p q l os t → Tells (is_seated t) (SeatsIn C p q l os)
 
 -- u is s begun again at the list's first, as far as s can be counted with.
 abbrev pub BegunAs : ℕ → Plan → Plan → Type 0

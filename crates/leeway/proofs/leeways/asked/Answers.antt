@@ -1,6 +1,6 @@
 use Rattle.std.proofs.Common.{◌≡◌, ℕ, ◌<◌, List, length, Ok, Err, Result, sym, refl, subst, rules, MatchResult}
 use Rattle.placement.specs.declared.stays.Stay.{Stay}
-use Rattle.trials.specs.Trials.{Answers as Tried-answers}
+use Rattle.trials.specs.Trials.{Answers as TriedAnswers}
 use Rattle.trials.specs.declared.tries.Tried.{Tried}
 use Rattle.trials.specs.declared.tries.Tried.TheVariants.{OutOfBounds, NotAnOrder, Fails, Seats}
 use Rattle.leeway.specs.Leeways.{Answers, Asked, Decided, SeatsIn, Settled}
@@ -18,7 +18,7 @@ told_of NotAnOrder = Err no.NotAnOrder
 told_of Fails = Err no.NoRoom
 told_of (Seats s) = Ok tt
 
-at_zero : (C : ℕ) (l : List Stay) (os : List ℕ) → 0 < length l → Decided C 0 1 l os → Settled C l os → (t : Tried) → Tried-answers C 0 1 l os t → Told C l os (told_of t)
+at_zero : (C : ℕ) (l : List Stay) (os : List ℕ) → 0 < length l → Decided C 0 1 l os → Settled C l os → (t : Tried) → TriedAnswers C 0 1 l os t → Told C l os (told_of t)
 at_zero C l os some d s OutOfBounds a = (some, a)
 at_zero C l os some d s NotAnOrder a = (some, a.0, a.1)
 at_zero C l os some d s Fails a = (record { some = some; bounds = a.0; order = a.1 }, s.nowhere (λ x. a.2 x.times x.seated))
@@ -34,9 +34,9 @@ returns c =
     let e = c.whole-zero.ensures in
     let some : 0 < length l = search rules in
     let d = subst (λ q. Decided C 0 q l os) e.1 (subst (λ p. Decided C p c.whole-zero.result.under l os) e.0 c.trials_decide.ensures) in
-    let a = subst (λ q. Tried-answers C 0 q l os c.in_ok-try_order.field-0) e.1 (subst (λ p. Tried-answers C p c.whole-zero.result.under l os c.in_ok-try_order.field-0) e.0 c.in_ok-try_order.ensures.answers) in
+    let a = subst (λ q. TriedAnswers C 0 q l os c.in_ok-try_order.field-0) e.1 (subst (λ p. TriedAnswers C p c.whole-zero.result.under l os c.in_ok-try_order.field-0) e.0 c.in_ok-try_order.ensures.answers) in
     let t = at_zero C l os some d c.greatest_settles.ensures.settled in
-    let to : (x : Tried) (r : Result (Unit {0}) NoLeeway) → c.in_ok-try_order.field-0 ≡ x → r ≡ told_of x → Told C l os r = λ x r i j. subst (Told C l os) (sym j) (t x (subst (λ y. Tried-answers C 0 1 l os y) i a)) in
+    let to : (x : Tried) (r : Result (Unit {0}) NoLeeway) → c.in_ok-try_order.field-0 ≡ x → r ≡ told_of x → Told C l os r = λ x r i j. subst (Told C l os) (sym j) (t x (subst (λ y. TriedAnswers C 0 1 l os y) i a)) in
     elim c.match-branch-2.branch [
       | in-OutOfBounds w ↦ to OutOfBounds c.match-branch-2.result w.in-OutOfBounds.is w.result-is
       | in-NotAnOrder w ↦ to NotAnOrder c.match-branch-2.result w.in-NotAnOrder.is w.result-is
