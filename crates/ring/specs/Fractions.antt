@@ -1,5 +1,5 @@
 -- Fractions of whole numbers, p/q with q at least 1, compared by the products across.
-use Rattle.std.specs.Prelude.{◌≡◌, ℕ, ◌*◌, ◌≤◌}
+use Rattle.std.specs.Prelude.{◌≡◌, ℕ, ◌*◌, ◌≤◌, List, ◌++◌, codes, decimal}
 
 -- p/q is at most p'/q'.
 abbrev pub AtMost : ℕ → ℕ → ℕ → ℕ → Type 0
@@ -26,3 +26,7 @@ pub record Reduced (p q a b : ℕ) : Type 0 where
   pub whole : 1 ≤ b
   pub same : a * q ≡ p * b
   pub lowest : Lowest a b
+
+-- How p/q is written.
+abbrev pub text_of : ℕ → ℕ → List ℕ
+text_of p q = decimal p ++ (codes "/" ++ decimal q)

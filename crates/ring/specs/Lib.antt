@@ -3,3 +3,4 @@ pub mod Refusals
 pub mod Measures
 pub mod Faults
 pub mod Fractions
+pub mod FractionOrders

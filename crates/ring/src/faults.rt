@@ -1,24 +1,23 @@
-ghost use Rattle.std.specs.Prelude.{◌≡◌, Ok, Err, MatchResult};
+ghost use Rattle.std.specs.Prelude.{◌≡◌, ◌≢◌, Ok, Err, MatchResult};
 ghost use Rattle.ring.specs.Faults.{layer_of, layer_number};
+ghost use Rattle.ring.specs.declared.refusals.Refusal.TheVariants.{NoMemory};
 
 use crate::refusals::Refusal;
+use std::error::Error;
 use std::fmt;
 
 // What a question belongs to: the file as a whole, or one record of it.
 #[derive(Clone, Copy, PartialEq, Eq, Debug)]
 pub enum Layer {
-    File,
-    Record,
+    File = 1,
+    Record = 2,
 }
 
 impl Layer {
     pub fn number(self) -> u8
         ensures { result ≡ layer_number self }
     {
-        match self {
-            Layer::File => 1,
-            Layer::Record => 2,
-        }
+        self as u8
     }
 }
 
@@ -42,6 +41,16 @@ impl Fault {
             Refusal::NoMemory => None,
         }
     }
+
+    // The fault itself, as an answer; want of memory is none, and is an error.
+    pub fn answer(self) -> Result<Fault, Fault>
+        ensures { MatchResult result (λ f. (f ≡ self) × (self.refusal ≢ NoMemory)) (λ e. (e ≡ self) × (self.refusal ≡ NoMemory)) }
+    {
+        match self.refusal {
+            Refusal::NoMemory => Err(self),
+            _ => Ok(self),
+        }
+    }
 }
 
 // `fault L RR NN`: layer, record, number.
@@ -59,12 +68,11 @@ impl fmt::Display for Fault {
     }
 }
 
+impl Error for Fault {}
+
 // A result with the record at which it came.
 pub fn at_record<T>(res: Result<T, Refusal>, record: u8) -> Result<T, Fault>
     ensures { MatchResult result (λ x. res ≡ Ok x) (λ f. (f.«record» ≡ «record») × (res ≡ Err f.refusal)) }
 {
-    match res {
-        Ok(x) => Ok(x),
-        Err(refusal) => Err(Fault { record, refusal }),
-    }
+    res.map_err(|refusal| Fault { record, refusal })
 }

@@ -1,8 +1,9 @@
-ghost use Rattle.std.specs.Prelude.{◌≡◌, ◌*◌, ◌≤◌};
-ghost use Rattle.ring.specs.Fractions.{AtMost, Divisor, Lowest, Reduced};
+ghost use Rattle.std.specs.Prelude.{◌≡◌, ◌*◌, ◌≤◌, Some};
+ghost use Rattle.ring.specs.Fractions.{AtMost, Divisor, Lowest, Reduced, text_of};
 ghost use Rattle.ring.specs.Questions.{Tells};
 
 use crate::measures::Ratio;
+use std::fmt;
 
 // A fraction in lowest terms: two of the same value are the same.
 #[derive(Clone, Copy, PartialEq, Eq, Debug)]
@@ -38,14 +39,6 @@ fn reduced(p: u32, q: u32) -> (u32, u32)
 }
 
 impl Fraction {
-    // A ratio in lowest terms.
-    pub fn of(ratio: Ratio) -> Fraction
-        ensures { result.over * ratio.under ≡ ratio.over * result.under }
-    {
-        let (over, under) = reduced(ratio.over(), ratio.under());
-        Fraction { over, under }
-    }
-
     pub fn over(&self) -> u32
         ensures { result ≡ self.now.over }
     {
@@ -58,18 +51,40 @@ impl Fraction {
         self.under
     }
 
-    pub fn ratio(&self) -> Ratio
-        ensures { (result.over ≡ self.now.over) × (result.under ≡ self.now.under) }
-    {
-        Ratio {
-            over: self.over,
-            under: self.under,
-        }
-    }
-
     pub fn at_most(&self, other: &Fraction) -> bool
         ensures { Tells result (AtMost self.now.over self.now.under other.now.over other.now.under) }
     {
-        self.over as u64 * other.under as u64 <= other.over as u64 * self.under as u64
+        self <= other
+    }
+}
+
+// A ratio in lowest terms.
+impl From<Ratio> for Fraction {
+    ghost from_gives = { λ ratio most. most.over * ratio.under ≡ ratio.over * most.under };
+
+    fn from(ratio: Ratio) -> Fraction {
+        let (over, under) = reduced(ratio.over(), ratio.under());
+        Fraction { over, under }
+    }
+}
+
+impl From<Fraction> for Ratio {
+    ghost from_gives = { λ most ratio. (ratio.over ≡ most.over) × (ratio.under ≡ most.under) };
+
+    fn from(most: Fraction) -> Ratio {
+        Ratio {
+            over: most.over,
+            under: most.under,
+        }
+    }
+}
+
+// over/under
+impl fmt::Display for Fraction {
+    ghost output = { λ most. Some (text_of most.over most.under) };
+
+    fn fmt<W: fmt::Write>(&self, f: &mut fmt::Formatter<W>) -> fmt::Result {
+        let Fraction { over, under } = *self;
+        write!(f, "{over}/{under}")
     }
 }

@@ -10,6 +10,7 @@
 mod faults;
 mod fractions;
 mod measures;
+mod orders;
 mod questions;
 mod refusals;
 

@@ -1,9 +1,11 @@
-ghost use Rattle.std.specs.Prelude.{◌≡◌, ◌≤◌, MatchOption, MatchResult};
+ghost use Rattle.std.specs.Prelude.{◌≡◌, ◌≤◌, Some, MatchOption, MatchResult};
+ghost use Rattle.ring.specs.Fractions.{text_of};
 ghost use Rattle.ring.specs.Questions.{AllYes, FirstNo};
 ghost use Rattle.ring.specs.Refusals.{number_of};
 ghost use Rattle.ring.specs.Measures.{InRingBounds, InPaceBounds, ring_questions, pace_questions};
 
 use crate::refusals::Refusal;
+use std::fmt;
 
 // A ring of time that repeats: positions on it are 0 to ticks - 1.
 #[derive(Clone, Copy, PartialEq, Eq, Debug)]
@@ -59,19 +61,20 @@ impl Pace {
     {
         self.q
     }
+}
 
-    pub fn ratio(&self) -> Ratio
-        ensures { (result.over ≡ self.now.p) × (result.under ≡ self.now.q) }
-    {
-        Ratio {
-            over: self.p,
-            under: self.q,
-        }
+// p/q
+impl fmt::Display for Pace {
+    ghost output = { λ pace. Some (text_of pace.p pace.q) };
+
+    fn fmt<W: fmt::Write>(&self, f: &mut fmt::Formatter<W>) -> fmt::Result {
+        let Pace { p, q } = *self;
+        write!(f, "{p}/{q}")
     }
 }
 
 // A fraction of whole numbers, not reduced and not bounded as a pace is.
-#[derive(Clone, Copy, Debug)]
+#[derive(Clone, Copy, PartialEq, Eq, Debug)]
 pub struct Ratio {
     pub(crate) over: u32,
     pub(crate) under: u32,
@@ -116,5 +119,16 @@ impl Ratio {
         ensures { result ≡ self.now.under }
     {
         self.under
+    }
+}
+
+impl From<Pace> for Ratio {
+    ghost from_gives = { λ pace ratio. (ratio.over ≡ pace.p) × (ratio.under ≡ pace.q) };
+
+    fn from(pace: Pace) -> Ratio {
+        Ratio {
+            over: pace.p,
+            under: pace.q,
+        }
     }
 }

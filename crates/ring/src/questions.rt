@@ -21,14 +21,11 @@ fn one_answer<Q: Questioned>(asked: &Q)
     let _ = asked;
 }
 
-// The number by which it is refused, none where it is granted. Whatever the questions are, it is
-// the only number of a first no, and nothing is both granted and refused.
-pub fn refused_by<Q: Questioned>(asked: &Q) -> Option<u8>
-    ensures { MatchOption result (Granted (Q.questions asked.now)) (λ n. RefusedBy (Q.questions asked.now) n) }
+// The refusal, none where it is granted. Whatever the questions are, its number is the only one of a
+// first no, and nothing is both granted and refused.
+pub fn refused_by<Q: Questioned>(asked: &Q) -> Option<Refusal>
+    ensures { MatchOption result (Granted (Q.questions asked.now)) (λ r. RefusedBy (Q.questions asked.now) (number_of r)) }
 {
     one_answer(asked);
-    match asked.ask() {
-        Ok(()) => None,
-        Err(refusal) => Some(refusal.number()),
-    }
+    asked.ask().err()
 }
