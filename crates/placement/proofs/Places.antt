@@ -1,18 +1,50 @@
 -- Places in an order, and lists changed in place.
-use Rattle.std.proofs.Common.{◌≡◌, ℕ, zero, suc, ◌+◌, ◌-◌, ◌*◌, ◌/◌, ◌<◌, ◌≤◌, cond, List, [], ◌∷◌, ◌++◌, map, length, get_or, take, drop, set, refl, ap, ◌∙◌, arith, eq-eqb, ne_eqb}
-use Rattle.std.proofs.lemmas.List.{at_drop_more, at_drop_all, get_or-append_right, length-map, length-take-le, get_or-drop, get_or_default, drop_at, take_at}
+use Rattle.std.proofs.Common.{◌≡◌, ℕ, zero, suc, ◌+◌, ◌-◌, ◌*◌, ◌/◌, ◌<◌, ◌≤◌, cond, List, [], ◌∷◌, ◌++◌, map, length, get_or, take, drop, set, refl, ap, ◌∙◌, arith, eq-eqb, ltb-true, ltb-false, lt-ltb, sym, subst, true≢false, eqb-true}
+use Rattle.std.proofs.lemmas.List.{get_or-append_right, length-map, length-take-le, get_or-drop, get_or_default, drop_at, take_at}
 use Rattle.std.proofs.lemmas.List.Edits.{map_over_more}
-use Rattle.std.specs.List.{remove}
-use Rattle.placement.specs.Seatings.{place_of, lowered, begun}
+use Rattle.std.specs.List.{remove, list_all}
+use Rattle.std.proofs.lemmas.List.{get_or_past}
+use Rattle.std.proofs.lemmas.List.Sums.{AllPass-from_list_all, list_all-from_AllPass}
+use Rattle.std.proofs.lemmas.List.Elements.{All-get_or, All-from_get_or}
+use native.Mathlib.Decide.{dec_lt}
+use Rattle.ring.specs.Questions.{Tells}
+use Rattle.std.specs.Prelude.{Option, Some, None, MatchOption, Bool, true, false, not, nat_eq, nat_lt, ◌==◌}
+use Rattle.std.specs.Option.{unwrap_or, option_eq, is_some}
+use Rattle.std.specs.List.{position, position_or_len}
+use Rattle.placement.specs.Seatings.{place_of, FirstPlace, lowered, begun}
 
-pub place_here : (i : ℕ) (os : List ℕ) (k : ℕ) → k < length os → get_or os k 0 ≡ i → place_of i (drop k os) ≡ 0
-place_here i os k b e = at_drop_more (place_of i) os k 0 b ∙ ap (λ v. cond v 0 (suc (place_of i (drop (k + 1) os)))) (eq-eqb (get_or os k 0) i e)
+place_prefix : (i : ℕ) (os : List ℕ) → position_or_len (λ o. o == i) os ≡ place_of i os
+place_prefix i [] = refl
+place_prefix i (o ∷ os) = turned (o == i) _ _ (place_prefix i os)
+  where
+    turned : (b : Bool) (m n : ℕ) → m ≡ n → cond (not b) (1 + m) 0 ≡ cond b 0 (suc n)
+    turned true m n e = refl
+    turned false m n e = omega (arith, e)
 
-pub place_on : (i : ℕ) (os : List ℕ) (k : ℕ) → k < length os → (get_or os k 0 ≡ i → ⊥) → place_of i (drop k os) ≡ suc (place_of i (drop (k + 1) os))
-place_on i os k b n = at_drop_more (place_of i) os k 0 b ∙ ap (λ v. cond v 0 (suc (place_of i (drop (k + 1) os)))) (ne_eqb (get_or os k 0) i n)
+place_within : (i : ℕ) (os : List ℕ) → place_of i os ≤ length os
+place_within i [] = omega arith
+place_within i (o ∷ os) = within (o == i) _ _ (place_within i os)
+  where
+    within : (b : Bool) (m n : ℕ) → m ≤ n → cond b 0 (suc m) ≤ suc n
+    within true m n h = omega arith
+    within false m n h = omega (arith, h)
 
-pub place_past : (i : ℕ) (os : List ℕ) (k : ℕ) → length os ≤ k → place_of i (drop k os) ≡ 0
-place_past i os k b = at_drop_all (place_of i) os k b
+-- The first position at which the index stands is its place.
+place_found : (i : ℕ) (os : List ℕ) → FirstPlace i os (position (λ o. o == i) os)
+place_found i os = found _ _ _ (place_prefix i os) (place_within i os) (nat_lt (position_or_len (λ o. o == i) os) (length os)) refl
+  where
+    found : (m n k : ℕ) → m ≡ k → k ≤ n → (b : Bool) → nat_lt m n ≡ b → MatchOption (cond b (Some m) None) (k ≡ n) (λ x. (x ≡ k) × (x < n))
+    found m n k e h true t = (e, ltb-true m n t)
+    found m n k e h false t = omega (arith, e, h, ltb-false m n t)
+
+-- The place, or the order's length where it has none.
+pub place_or : (i n k : ℕ) (os : List ℕ) (r : Option ℕ) → FirstPlace i os r → n ≡ length os → k ≡ unwrap_or r n → (k ≡ place_of i os) × (k ≤ length os)
+place_or i n k os None h en ek = (omega (arith, h, en, ek), omega (arith, en, ek))
+place_or i n k os (Some x) h en ek = (omega (arith, h.0, ek), omega (arith, h.1, ek))
+
+-- What a search for the index gives.
+pub place_searched : (i : ℕ) (os : List ℕ) (r : Option ℕ) → r ≡ position (λ o. o == i) os → FirstPlace i os r
+place_searched i os r e = subst (FirstPlace i os) (sym e) (place_found i os)
 
 -- a map in place, come to i
 pub over_at : (f : ℕ → ℕ) (xs ys : List ℕ) (i : ℕ) → i < length xs → ys ≡ map f (take i xs) ++ drop i xs → get_or ys i 0 ≡ get_or xs i 0
@@ -43,3 +75,33 @@ removed_below M [] (suc k) h j = h j
 removed_below M (x ∷ xs) zero h j = h (suc j)
 removed_below M (x ∷ xs) (suc k) h zero = h 0
 removed_below M (x ∷ xs) (suc k) h (suc j) = removed_below M xs k (λ i. h (suc i)) j
+
+-- Whether every entry is below a bound, the default entry too.
+pub all_below : (M : ℕ) (ts : List ℕ) (r : Bool) → 0 < M → r ≡ list_all (λ t. nat_lt t M) ts → Tells r ((k : ℕ) → get_or ts k 0 < M)
+all_below M ts r h e = (
+  (λ y k. elim (dec_lt k (length ts)) [
+    | yes b ↦ ltb-true (get_or ts k 0) M (All-get_or (λ t. nat_lt t M ≡ true) ts k 0 b (AllPass-from_list_all (λ t. nat_lt t M) ts (sym e ∙ y)))
+    | no b ↦ omega (arith, h, get_or_past ts k 0 (omega arith))
+  ]),
+  (λ f. e ∙ list_all-from_AllPass (λ t. nat_lt t M) ts (All-from_get_or (λ t. nat_lt t M ≡ true) ts 0 (λ k b. lt-ltb (get_or ts k 0) M (f k)))),
+)
+
+pub place_some : (i k : ℕ) (os : List ℕ) (r : Option ℕ) → FirstPlace i os r → place_of i os ≡ k → k < length os → r ≡ Some k
+place_some i k os None e p h = absurd (omega (arith, e, p, h))
+place_some i k os (Some x) e p h = ap Some (omega (arith, e.0, p))
+
+pub place_from : (i k : ℕ) (os : List ℕ) (r : Option ℕ) → FirstPlace i os r → r ≡ Some k → (place_of i os ≡ k) × (k < length os)
+place_from i k os r h e = let f = subst (FirstPlace i os) e h in (sym f.0, f.1)
+
+-- Whether a search gives a place, as a test tells.
+pub other_place : (r : Option ℕ) (k : ℕ) (b : Bool) → b ≡ not (option_eq nat_eq r (Some k)) → b ≡ true → r ≡ Some k → ⊥
+other_place None k b e t h = absurd (true≢false (sym (ap (λ o. is_some o) h)))
+other_place (Some x) k b e t h = absurd (true≢false (sym t ∙ e ∙ ap not (eq-eqb x k (ap (λ o. unwrap_or o 0) h))))
+
+pub that_place : (r : Option ℕ) (k : ℕ) (b : Bool) → b ≡ not (option_eq nat_eq r (Some k)) → b ≡ false → r ≡ Some k
+that_place None k b e f = absurd (true≢false (sym e ∙ f))
+that_place (Some x) k b e f = ap Some (eqb-true x k (unturned (nat_eq x k) (sym e ∙ f)))
+  where
+    unturned : (t : Bool) → not t ≡ false → t ≡ true
+    unturned true h = refl
+    unturned false h = absurd (true≢false h)

@@ -1,5 +1,5 @@
 -- Seatings: an order of a list's stays and a time for each.
-use Rattle.std.specs.Prelude.{◌≡◌, ℕ, suc, ◌+◌, ◌-◌, ◌*◌, ◌/◌, ◌%◌, ◌^◌, ◌<◌, cond, List, [], ◌∷◌, ◌++◌, map, length, take, drop, vec_items, ◌==◌, ◌≢◌, nat_lt, slice_index, slice_index_or}
+use Rattle.std.specs.Prelude.{◌≡◌, ℕ, suc, ◌+◌, ◌-◌, ◌*◌, ◌/◌, ◌%◌, ◌^◌, ◌<◌, cond, List, [], ◌∷◌, ◌++◌, map, length, take, drop, vec_items, ◌==◌, ◌≢◌, nat_lt, slice_index, slice_index_or, Option, MatchOption}
 use Rattle.std.specs.List.{remove}
 use Rattle.placement.specs.Windows.{Holds}
 use Rattle.placement.specs.Stays.{Apart, no_stay}
@@ -73,6 +73,11 @@ Fine C p q l os ts k =
 abbrev pub place_of : ℕ → List ℕ → ℕ
 place_of i [] = 0
 place_of i (o ∷ os) = cond (o == i) 0 (suc (place_of i os))
+
+-- r is the first place of the index i in the order, nothing where it has none.
+abbrev pub FirstPlace : ℕ → List ℕ → Option ℕ → Type 0
+FirstPlace i os r =
+    MatchOption r (place_of i os ≡ length os) (λ k. (k ≡ place_of i os) × (k < length os))
 
 -- The time of the stay i.
 abbrev pub time_of : ℕ → Plan → ℕ

@@ -1,6 +1,6 @@
 -- Stays: a window, and what is taken before and after the position, its lead and its trail.
-use Rattle.std.specs.Prelude.{◌≡◌, ℕ, ◌+◌, ◌*◌, ◌<◌, ◌≤◌}
-use Rattle.placement.specs.Windows.{Narrower}
+use Rattle.std.specs.Prelude.{◌≡◌, ℕ, ◌+◌, ◌*◌, ◌<◌, ◌≤◌, List, ◌++◌, codes, decimal}
+use Rattle.placement.specs.Windows.{Narrower, window_text}
 use Rattle.placement.specs.declared.stays.Stay.{Stay}
 
 -- A stay within its bounds, on a ring of C ticks.
@@ -26,3 +26,8 @@ pub record Narrowed (C : ℕ) (a b : Stay) : Type 0 where
 -- At the pace p/q, b at y comes after a at x: there is room between them for a's trail and b's lead.
 abbrev pub Apart : ℕ → ℕ → Stay → ℕ → Stay → ℕ → Type 0
 Apart p q a x b y = p * (a.trail + b.lead) + q * x ≤ q * y
+
+-- How a stay is written.
+abbrev pub stay_text : Stay → List ℕ
+stay_text s =
+    codes "window " ++ (window_text s.window ++ (codes ", lead " ++ (decimal s.lead ++ (codes ", trail " ++ decimal s.trail))))

@@ -1,5 +1,5 @@
 -- Windows on a ring of C ticks.
-use Rattle.std.specs.Prelude.{ℕ, ◌+◌, ◌-◌, ◌%◌, ◌≤◌}
+use Rattle.std.specs.Prelude.{ℕ, ◌+◌, ◌-◌, ◌%◌, ◌≤◌, List, ◌++◌, codes, decimal}
 use Rattle.placement.specs.declared.windows.Window.{Window}
 
 -- How far round the ring the time x lies past the window's first position.
@@ -19,3 +19,7 @@ pub record Earliest (C : ℕ) (w : Window) (low r : ℕ) : Type 0 where
   pub holds : Holds C w r
   pub late : low ≤ r
   pub least : (y : ℕ) → low ≤ y → Holds C w y → r ≤ y
+
+-- How a window is written.
+abbrev pub window_text : Window → List ℕ
+window_text w = decimal w.from ++ (codes " +" ++ decimal w.width)

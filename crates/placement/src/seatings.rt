@@ -1,6 +1,7 @@
-ghost use Rattle.std.specs.Prelude.{◌≡◌, ℕ, suc, ◌+◌, ◌-◌, ◌*◌, ◌/◌, ◌<◌, ◌≤◌, true, List, ◌++◌, map, length, take, drop, vec_len, MatchOption, slice_index};
+ghost use Rattle.std.specs.Prelude.{◌≡◌, ℕ, suc, ◌+◌, ◌-◌, ◌*◌, ◌/◌, ◌<◌, ◌^◌, ◌≤◌, true, List, ◌++◌, map, length, take, drop, vec_len, MatchOption, slice_index, position, ◌==◌, nat_lt};
+ghost use Rattle.std.specs.List.{list_all};
 ghost use Rattle.ring.specs.Questions.{Tells};
-ghost use Rattle.placement.specs.Seatings.{plan, no_plan, place_of, HasPosition, position_of, Order, Fine, Lawful, planned, Plan, Seated, Small, Sound, turned, begun, begun_again, fallen, left_out, without};
+ghost use Rattle.placement.specs.Seatings.{plan, no_plan, FirstPlace, HasPosition, position_of, Order, Fine, Lawful, planned, Plan, Seated, Small, Sound, turned, begun, begun_again, fallen, left_out, without};
 ghost use Rattle.placement.specs.Keeps.{Begun, Left};
 ghost use Rattle.placement.specs.Arcs.{Means, PrintedRule};
 ghost use Rattle.placement.specs.Worked.{WorkedSeatings};
@@ -17,24 +18,17 @@ pub struct Seating {
     pub times: Vec<u64>,
 }
 
-// The first place of the stay in the order, or the order's length.
-fn place_of(order: &[usize], stay: usize) -> usize
-    ensures value { result ≡ place_of stay order.now }
-    ensures bound { result ≤ length order.now }
+fn first_at(order: &[usize], stay: usize) -> Option<usize>
+    ensures { result ≡ position (λ o. o == stay) order.now }
 {
-    for (k, o) in order.iter().enumerate() {
-        if *o == stay {
-            return k;
-        }
-    }
-    order.len()
+    order.iter().position(|o| *o == stay)
 }
 
+// The first place of the stay in the order.
 fn find(order: &[usize], stay: usize) -> Option<usize>
-    ensures { MatchOption result (length order.now ≤ place_of stay order.now) (λ k. (k ≡ place_of stay order.now) × (k < length order.now)) }
+    ensures { FirstPlace stay order.now result }
 {
-    let k = place_of(order, stay);
-    if k < order.len() { Some(k) } else { None }
+    first_at(order, stay)
 }
 
 // Whether the order holds each index below n once.
@@ -44,12 +38,8 @@ pub fn is_order(order: &[usize], n: usize) -> bool
     if order.len() != n {
         return false;
     }
-    for k in 0..n {
-        let o = order[k];
-        if o >= n {
-            return false;
-        }
-        if place_of(order, o) != k {
+    for (k, o) in order.iter().enumerate() {
+        if *o >= n || find(order, *o) != Some(k) {
             return false;
         }
     }
@@ -67,10 +57,10 @@ fn is_fine(ring: Ring, pace: Pace, stays: &[Stay], order: &[usize], times: &[u64
     }
     let next = k + 1;
     if next < stays.len() {
-        stay.is_apart(pace.ratio(), times[k], &stays[order[next]], times[next])
+        stay.is_apart(pace.into(), times[k], &stays[order[next]], times[next])
     } else {
         stay.is_apart(
-            pace.ratio(),
+            pace.into(),
             times[k],
             &stays[order[0]],
             times[0] + ring.ticks() as u64,
@@ -97,6 +87,7 @@ fn rules_hold(ring: Ring, pace: Pace, stays: &[Stay], order: &[usize], times: &[
     if times[0] >= ring.ticks() as u64 {
         return false;
     }
+    // by index, since a place is held to the next one: `all` over the places leaves its goal open
     for k in 0..n {
         if !is_fine(ring, pace, stays, order, times, k) {
             return false;
@@ -140,8 +131,9 @@ fn raise(times: &mut [u64], k: usize, ring: Ring)
     requires { (k ≤ length times.old) × (Small times.old) }
     ensures { times.new ≡ map (λ u. u + ring.ticks) (take k times.old) ++ drop k times.old }
 {
-    for i in 0..k {
-        times[i] = times[i].saturating_add(ring.ticks() as u64);
+    let (early, _) = times.split_at_mut(k);
+    for t in early.iter_mut() {
+        *t = t.saturating_add(ring.ticks() as u64);
     }
 }
 
@@ -153,18 +145,12 @@ fn lower(times: &mut [u64], base: u64)
     }
 }
 
-fn first_time(times: &[u64]) -> u64
-    ensures { result ≡ slice_index times.now 0 }
-{
-    if times.len() > 0 { times[0] } else { 0 }
-}
-
 // What the whole rings in the first time come to.
 fn whole_rings(times: &[u64], ring: Ring) -> u64
     ensures { result ≡ slice_index times.now 0 / ring.ticks * ring.ticks }
 {
     let ticks = ring.ticks() as u64;
-    first_time(times) / ticks * ticks
+    times.first().map_or(0, |t| *t / ticks * ticks)
 }
 
 // The order, begun at its place k.
@@ -187,14 +173,9 @@ fn turn_times(times: &mut Vec<u64>, k: usize, ring: Ring)
 }
 
 fn all_small(times: &[u64]) -> bool
-    ensures { Tells result (Small times.now) }
+    ensures { result ≡ list_all (λ t. nat_lt t (2 ^ 62)) times.now }
 {
-    for t in times {
-        if *t >= 1 << 62 {
-            return false;
-        }
-    }
-    true
+    times.iter().all(|t| *t < 1 << 62)
 }
 
 // The times of a seating that keeps the rules are small.
@@ -244,7 +225,7 @@ impl Seating {
         ensures begins { plan self.new ≡ begun_again ring.ticks stay (plan self.old) }
         ensures keeps { (p q : ℕ) (l : List Stay) → 1 ≤ q → Seated ring.ticks p q l (plan self.old) → stay < length l → Begun ring.ticks p q l stay (plan self.old) (plan self.new) }
     {
-        let k = place_of(&self.order, stay);
+        let k = find(&self.order, stay).unwrap_or(self.order.len());
         turn_order(&mut self.order, k);
         turn_times(&mut self.times, k, ring);
     }
@@ -268,8 +249,7 @@ impl Seating {
         ensures leaves { plan self.new ≡ left_out stay (plan self.old) }
         ensures sound { Sound (plan self.new) }
     {
-        let k = place_of(&self.order, stay);
-        if k < self.order.len() {
+        if let Some(k) = find(&self.order, stay) {
             self.order.remove(k);
             self.times.remove(k);
         }

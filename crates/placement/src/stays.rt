@@ -1,9 +1,11 @@
+ghost use Rattle.std.specs.Prelude.{Some};
 ghost use Rattle.ring.specs.Questions.{Tells};
 ghost use Rattle.placement.specs.Arcs.{InBounds};
-ghost use Rattle.placement.specs.Stays.{StayBounds, Apart};
+ghost use Rattle.placement.specs.Stays.{StayBounds, Apart, stay_text};
 
 use crate::windows::Window;
 use ring::{Ratio, Ring};
+use std::fmt;
 
 // A window, and what is taken before and after the position in it, in units that the pace turns into
 // ticks. Any numbers may be handed in.
@@ -35,6 +37,19 @@ impl Stay {
         let p = ratio.over() as u128;
         let q = ratio.under() as u128;
         p * (self.trail as u128 + next.lead as u128) + q * x as u128 <= q * y as u128
+    }
+}
+
+impl fmt::Display for Stay {
+    ghost output = { λ stay. Some (stay_text stay) };
+
+    fn fmt<W: fmt::Write>(&self, f: &mut fmt::Formatter<W>) -> fmt::Result {
+        let Stay {
+            window,
+            lead,
+            trail,
+        } = *self;
+        write!(f, "window {window}, lead {lead}, trail {trail}")
     }
 }
 

@@ -1,8 +1,9 @@
-ghost use Rattle.std.specs.Prelude.{◌≡◌, ℕ, ◌+◌, ◌-◌, ◌^◌, ◌<◌, ◌≤◌, MatchOption};
+ghost use Rattle.std.specs.Prelude.{◌≡◌, ℕ, ◌+◌, ◌-◌, ◌^◌, ◌<◌, ◌≤◌, Some, MatchOption};
 ghost use Rattle.ring.specs.Questions.{Tells};
-ghost use Rattle.placement.specs.Windows.{offset, Holds, Earliest};
+ghost use Rattle.placement.specs.Windows.{offset, Holds, Earliest, window_text};
 
 use ring::Ring;
+use std::fmt;
 
 // The width + 1 positions of a ring counted upward from its first. Any numbers may be handed in.
 #[derive(Clone, Copy, PartialEq, Eq, Debug)]
@@ -36,11 +37,17 @@ impl Window {
             return Some(low);
         }
         next_turn(self, ring, low);
-        let turn = (ring.ticks() - past) as u64;
-        if low > u64::MAX - turn {
-            return None;
-        }
-        Some(low + turn)
+        low.checked_add((ring.ticks() - past) as u64)
+    }
+}
+
+// from +width
+impl fmt::Display for Window {
+    ghost output = { λ window. Some (window_text window) };
+
+    fn fmt<W: fmt::Write>(&self, f: &mut fmt::Formatter<W>) -> fmt::Result {
+        let Window { from, width } = *self;
+        write!(f, "{from} +{width}")
     }
 }
 

@@ -1,14 +1,17 @@
-use Rattle.std.proofs.Common.{ℕ, List, sym, subst, arith, eqb-true}
-use Rattle.placement.specs.Seatings.{Sound, Small}
+use Rattle.std.proofs.Common.{◌^◌, ap, ◌∙◌, arith, eqb-true}
+use Rattle.std.specs.Prelude.{nat_lt}
+use Rattle.std.specs.List.{list_all}
+use Rattle.placement.specs.Seatings.{Sound}
+use Rattle.placement.proofs.Places.{all_below}
 use Rattle.placement.proofs.seatings.Seating.is_sound.Goals as goal
 
 pub returns-then-len : goal.returns-then-len
 unfolding Sound
 returns-then-len c =
     let s = c.args.self.now in
-    let P : List ℕ → Type 0 = λ ts. Small ts in (
-      (λ e. (omega (arith, c.if-len.true, c.len.ensures, c.len-2.ensures, s.order.ok.0, s.times.ok.0), subst P c.deref.ensures.value (c.all_small.ensures.0 e))),
-      λ h. c.all_small.ensures.1 (subst P (sym c.deref.ensures.value) h.1),
+    let small = all_below (2 ^ 62) _ c.all_small.result (omega arith) (c.all_small.ensures ∙ ap (list_all (λ t. nat_lt t (2 ^ 62))) c.deref.ensures.value) in (
+      (λ e. (omega (arith, c.if-len.true, c.len.ensures, c.len-2.ensures, s.order.ok.0, s.times.ok.0), small.0 e)),
+      λ h. small.1 h.1,
     )
 
 pub returns-else-len : goal.returns-else-len
