@@ -1,6 +1,8 @@
 -- Trials, stay by stay: what the loops over an order build.
-use Rattle.std.proofs.Common.{◌≡◌, ℕ, suc, ◌+◌, ◌-◌, ◌<◌, ◌≤◌, ◌⊎◌, List, [], ◌∷◌, ◌++◌, length, get_or, take, drop, sym, refl, ap, ◌∙◌, subst, inl, inr, arith, length-append, length-drop, length-take}
+use Rattle.std.proofs.Common.{◌≡◌, ℕ, suc, ◌+◌, ◌-◌, ◌%◌, ◌<◌, ◌≤◌, ◌⊎◌, List, [], ◌∷◌, ◌++◌, length, get_or, take, drop, sym, refl, ap, ◌∙◌, subst, inl, inr, arith, length-append, length-drop, length-take}
 use Rattle.std.proofs.lemmas.List.{get_or_append_left, get_or-append_right, get_or-drop, get_or-take, drop_more, take_more, take_all, take-append-drop}
+use native.Mathlib.Decide.{dec_lt}
+use Rattle.std.proofs.Math.Nat.{mod-eq_of_lt, add-mod_right}
 use Rattle.placement.specs.Stays.{Apart, no_stay}
 use Rattle.placement.specs.Seatings.{turned}
 use Rattle.placement.specs.declared.stays.Stay.{Stay}
@@ -28,6 +30,14 @@ turned_back t k os ht hk h =
 -- The place i, in the order, of the k-th of the order begun at t.
 abbrev pub Place : ℕ → ℕ → ℕ → ℕ → Type 0
 Place n t k i = ((t + k < n) × (i ≡ t + k)) ⊎ ((n ≤ t + k) × (i ≡ t + k - n))
+
+pub place_round : (n t k : ℕ) → t < n → k < n → Place n t k ((t + k) % n)
+place_round n t k ht hk = elim (dec_lt (t + k) n) [
+  | yes h ↦ inl (h, mod-eq_of_lt h)
+  | no h ↦
+      let e : t + k ≡ t + k - n + n = omega (arith, h) in
+      inr (omega (arith, h), ap (λ m. m % n) e ∙ add-mod_right (t + k - n) n ∙ mod-eq_of_lt (omega (arith, ht, hk, h)))
+]
 
 pub place_below : (n t k i : ℕ) → t < n → k < n → Place n t k i → i < n
 place_below n t k i ht hk p = omega arith

@@ -1,5 +1,5 @@
 -- Trials along an order: whether a list can be seated in it, stay by stay.
-use Rattle.std.specs.Prelude.{◌≡◌, ℕ, ◌+◌, ◌^◌, ◌<◌, ◌≤◌, Bool, List, [], ◌∷◌, length, get_or, Some, None, vec_items, Option, Vec, slice_index, slice_index_or}
+use Rattle.std.specs.Prelude.{◌≡◌, ℕ, ◌+◌, ◌^◌, ◌<◌, ◌≤◌, Bool, List, [], ◌∷◌, length, get_or, Some, None, vec_items, Option, Vec, slice_index, slice_index_or, Result, Ok, Err, codes}
 use Rattle.placement.specs.Windows.{Holds}
 use Rattle.placement.specs.Stays.{Apart, no_stay}
 use Rattle.placement.specs.Seatings.{Plan, plan, planned, no_plan, Seated, Order, turned}
@@ -7,8 +7,9 @@ use Rattle.placement.specs.Arcs.{InBounds}
 use Rattle.placement.specs.declared.stays.Stay.{Stay}
 use Rattle.ring.specs.Questions.{Tells}
 use Rattle.std.specs.declared.alloc.Global.{Global}
-use Rattle.trials.specs.declared.tries.Tried.{Tried}
-use Rattle.trials.specs.declared.tries.Tried.TheVariants.{OutOfBounds, NotAnOrder, Fails, Seats}
+use Rattle.placement.specs.declared.seatings.Seating.{Seating}
+use Rattle.trials.specs.declared.nos.NoSeating.{NoSeating}
+use Rattle.trials.specs.declared.nos.NoSeating.TheVariants.{OutOfBounds, NotAnOrder, NoneCloses, NoMemory}
 
 -- The least time y of b that its window and the apart rule allow after a at x.
 pub record Least (C p q : ℕ) (a : Stay) (x : ℕ) (b : Stay) (y : ℕ) : Type 0 where
@@ -90,10 +91,18 @@ Found C p q l os None = (ts : List ℕ) → Seated C p q l (planned os ts) → l
 
 -- What trying an order answers: the first closing trial, or that the list has no seating in the order
 -- at all.
-abbrev pub Answers : ℕ → ℕ → ℕ → List Stay → List ℕ → Tried → Type 0
-Answers C p q l os OutOfBounds = InBounds C l → ⊥
-Answers C p q l os NotAnOrder = InBounds C l × (Order (length l) os → ⊥)
-Answers C p q l os Fails =
+abbrev pub Answers : ℕ → ℕ → ℕ → List Stay → List ℕ → Result Seating NoSeating → Type 0
+Answers C p q l os (Err OutOfBounds) = InBounds C l → ⊥
+Answers C p q l os (Err NotAnOrder) = InBounds C l × (Order (length l) os → ⊥)
+Answers C p q l os (Err NoneCloses) =
     InBounds C l × Order (length l) os × ((ts : List ℕ) → Seated C p q l (planned os ts) → ⊥)
-Answers C p q l os (Seats s) =
+Answers C p q l os (Err NoMemory) = Unit {0}
+Answers C p q l os (Ok s) =
     InBounds C l × Order (length l) os × Given C p q l os (plan s) × Seated C p q l (plan s)
+
+-- How each no is written.
+abbrev pub no_text : NoSeating → List ℕ
+no_text OutOfBounds = codes "a stay is out of bounds"
+no_text NotAnOrder = codes "not an order of the list"
+no_text NoneCloses = codes "no seating in this order"
+no_text NoMemory = codes "no memory"

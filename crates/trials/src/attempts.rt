@@ -1,5 +1,5 @@
-ghost use Rattle.std.specs.Prelude.{◌≡◌, ◌<◌, length, IfOk, MatchOption};
-ghost use Rattle.placement.specs.Seatings.{kth};
+ghost use Rattle.std.specs.Prelude.{◌≡◌, ◌∷◌, IfOk, MatchOption, slice_index_or};
+ghost use Rattle.placement.specs.Stays.{no_stay};
 ghost use Rattle.trials.specs.Trials.{Attempted, EndsIt, NoAttempt, Trial};
 
 use crate::next::next_time;
@@ -7,7 +7,7 @@ use placement::Stay;
 use ring::{Ratio, Ring};
 use std::alloc::{AllocError, Global};
 
-// One trial: its times, and whether it closes.
+// One trial: its times, and whether it closes. One that does not close has times too.
 #[derive(Drop)]
 pub struct Attempt {
     pub times: Vec<u64>,
@@ -28,19 +28,20 @@ fn follow(
     ring: Ring,
     ratio: Ratio,
     stays: &[Stay],
-    order: &[usize],
+    head: usize,
+    others: &[usize],
     first: Stay,
 ) -> Result<Option<Followed>, AllocError>
-    requires { (0 < length order.now) × (first ≡ kth stays.now order.now 0) }
-    ensures { IfOk result (λ o. MatchOption o (NoAttempt ring.ticks ratio.over ratio.under stays.now order.now) (λ f. Trial ring.ticks ratio.over ratio.under stays.now order.now f.times.items × EndsIt ring.ticks ratio.over ratio.under stays.now order.now f.times.items f.last f.at first)) }
+    requires { first ≡ slice_index_or stays.now head no_stay }
+    ensures { IfOk result (λ o. MatchOption o (NoAttempt ring.ticks ratio.over ratio.under stays.now (head ∷ others.now)) (λ f. Trial ring.ticks ratio.over ratio.under stays.now (head ∷ others.now) f.times.items × EndsIt ring.ticks ratio.over ratio.under stays.now (head ∷ others.now) f.times.items f.last f.at first)) }
 {
     let start = first.window.from as u64;
     let mut times = Vec::new(heap);
     times.push(start)?;
     let mut last = first;
     let mut at = start;
-    for k in 1..order.len() {
-        let Some(stay) = stays.get(order[k]) else {
+    for i in others {
+        let Some(stay) = stays.get(*i) else {
             return Ok(None);
         };
         let Some(time) = next_time(ring, ratio, &last, at, stay) else {
@@ -64,13 +65,13 @@ pub fn trial(
 ) -> Result<Option<Attempt>, AllocError>
     ensures { IfOk result (λ o. MatchOption o (NoAttempt ring.ticks ratio.over ratio.under stays.now order.now) (λ a. Attempted ring.ticks ratio.over ratio.under stays.now order.now a.times.items a.closes)) }
 {
-    let Some(head) = order.first() else {
+    let Some((head, others)) = order.split_first() else {
         return Ok(None);
     };
     let Some(first) = stays.get(*head) else {
         return Ok(None);
     };
-    let Some(followed) = follow(heap, ring, ratio, stays, order, *first)? else {
+    let Some(followed) = follow(heap, ring, ratio, stays, *head, others, *first)? else {
         return Ok(None);
     };
     let end = first.window.from as u64 + ring.ticks() as u64;

@@ -9,8 +9,10 @@
 
 mod attempts;
 mod next;
+mod nos;
 mod tries;
 
 pub use attempts::{Attempt, trial};
 pub use next::next_time;
-pub use tries::{Tried, try_order};
+pub use nos::NoSeating;
+pub use tries::try_order;

@@ -14,7 +14,7 @@ fn gap(ratio: Ratio, a: &Stay, b: &Stay) -> u128
 {
     let p = ratio.over() as u128;
     let q = ratio.under() as u128;
-    (p * (a.trail as u128 + b.lead as u128) + (q - 1)) / q
+    (p * (a.trail as u128 + b.lead as u128)).div_ceil(q)
 }
 
 // The least time of b after a at x, nothing where that passes 64 bits.
@@ -22,9 +22,8 @@ pub fn next_time(ring: Ring, ratio: Ratio, a: &Stay, x: u64, b: &Stay) -> Option
     ensures { MatchOption result ((z : ℕ) → Holds ring.ticks b.now.window z → Apart ratio.over ratio.under a.now x b.now z → 2 ^ 64 ≤ z) (λ y. Least ring.ticks ratio.over ratio.under a.now x b.now y) }
 {
     let low = x as u128 + gap(ratio, a, b);
-    if low >= 1 << 64 {
+    let Ok(low) = u64::try_from(low) else {
         return None;
-    }
-    let y = b.window.earliest(ring, low as u64)?;
-    Some(y)
+    };
+    b.window.earliest(ring, low)
 }

@@ -4,22 +4,10 @@ ghost use Rattle.placement.specs.Seatings.{Order, Seated, no_plan, plan, planned
 ghost use Rattle.trials.specs.Trials.{Answers, Complete, Found};
 
 use crate::next::next_time;
+use crate::nos::NoSeating;
 use placement::{Seating, Stay, all_in_bounds, is_order};
 use ring::{Ratio, Ring};
 use std::alloc::{AllocError, Global};
-
-// What trying an order answers.
-#[derive(Drop)]
-pub enum Tried {
-    // a stay of the list is out of bounds
-    OutOfBounds,
-    // the order does not hold each index of the list once
-    NotAnOrder,
-    // the list has no seating in this order
-    Fails,
-    // the first trial that closes, begun with its own stay
-    Seats(Seating),
-}
 
 // The first trial that closes: its place in the order and its times.
 fn first_closing(
@@ -33,13 +21,11 @@ fn first_closing(
     ensures { IfOk result (λ o. Found ring.ticks ratio.over ratio.under stays.now order.now o) }
 {
     let n = order.len();
-    let mut tried = 0;
+    let mut starts = 0..n;
     let found = 'trials: loop {
-        if tried == n {
+        let Some(t) = starts.next() else {
             break 'trials None;
-        }
-        let t = tried;
-        tried += 1;
+        };
         let first = stays[order[t]];
         let start = first.window.from as u64;
         let end = start + ring.ticks() as u64;
@@ -48,8 +34,8 @@ fn first_closing(
         let mut last = first;
         let mut at = start;
         'followers: for k in 1..n {
-            let i = if t + k < n { t + k } else { t + k - n };
-            let stay = stays[order[i]];
+            // by index, since a trial goes round the order from its own place
+            let stay = stays[order[(t + k) % n]];
             let Some(time) = next_time(ring, ratio, &last, at, &stay) else {
                 continue 'trials;
             };
@@ -86,30 +72,30 @@ fn some_trial_closes(ring: Ring, ratio: Ratio, stays: &[Stay], order: &[usize])
     ensures { Complete ring.ticks ratio.over ratio.under stays.now order.now }
 {}
 
-// Tries to seat a list in an order. Every stay is checked before any is seated.
+// Tries to seat a list in an order: the seating is that of the first trial that closes, begun with its
+// own stay. Every stay is checked before any is seated.
 pub fn try_order(
     heap: Global,
     ring: Ring,
     ratio: Ratio,
     stays: &[Stay],
     order: &[usize],
-) -> Result<Tried, AllocError>
+) -> Result<Seating, NoSeating>
     ensures complete { Complete ring.ticks ratio.over ratio.under stays.now order.now }
-    ensures answers { IfOk result (λ t. Answers ring.ticks ratio.over ratio.under stays.now order.now t) }
+    ensures answers { Answers ring.ticks ratio.over ratio.under stays.now order.now result }
 {
     some_trial_closes(ring, ratio, stays, order);
     if !all_in_bounds(ring, stays) {
-        return Ok(Tried::OutOfBounds);
+        return Err(NoSeating::OutOfBounds);
     }
     if !is_order(order, stays.len()) {
-        return Ok(Tried::NotAnOrder);
+        return Err(NoSeating::NotAnOrder);
     }
     empty_is_seated(ring, ratio, stays);
     if order.is_empty() {
-        return Ok(Tried::Seats(Seating::empty(heap)));
+        return Ok(Seating::empty(heap));
     }
-    match first_closing(heap, ring, ratio, stays, order)? {
-        None => Ok(Tried::Fails),
-        Some((t, times)) => Ok(Tried::Seats(begun_at(heap, order, t, times)?)),
-    }
+    let found = first_closing(heap, ring, ratio, stays, order)?;
+    let (t, times) = found.ok_or(NoSeating::NoneCloses)?;
+    Ok(begun_at(heap, order, t, times)?)
 }

@@ -1,46 +1,44 @@
-use Rattle.std.proofs.Common.{◌≡◌, ℕ, ◌+◌, ◌^◌, ◌<◌, ◌≤◌, true, false, [], ◌∷◌, ◌++◌, length, get_or, vec_items, sym, refl, ap, ◌∙◌, subst, inl, inr, arith, below_more}
+use Rattle.std.proofs.Common.{◌≡◌, ℕ, ◌+◌, ◌%◌, ◌^◌, ◌<◌, ◌≤◌, true, false, [], ◌∷◌, ◌++◌, length, get_or, vec_items, sym, refl, subst, arith, rules}
+use native.Mathlib.Decide.{dec_lt}
 use Rattle.placement.specs.Stays.{Apart, no_stay}
 use Rattle.placement.specs.Seatings.{turned}
 use Rattle.trials.specs.Trials.{Found, First}
 use Rattle.trials.proofs.Followers.{open_fails, fails_open}
-use Rattle.trials.proofs.Pushes.{Place, last_push, turned_first, trial_more, last_more, late_more, whole_trial}
+use Rattle.trials.proofs.Pushes.{Place, last_push, trial_more, last_more, late_more, place_round, whole_trial}
 use Rattle.trials.proofs.Firsts.{first_seated, least_exists, none_seated}
 use Rattle.trials.proofs.tries.first_closing.Goals as goal
-use Rattle.trials.proofs.tries.first_closing.Goals.{then-t-k, else-t-k, then-tried-n, else-tried-n+in_ok-push+else-followers-test+then-is_apart}
+use Rattle.trials.proofs.tries.first_closing.Goals.{in_default, in-Some+in_ok-push+else-followers-test+then-is_apart}
+
+one_more : (P : ℕ → Type 0) (m n t : ℕ) → t ≡ m → n ≡ t + 1 → ((u : ℕ) → u < m → P u) → P t → (u : ℕ) → u < n → P u
+one_more P m n t at on before here u h = elim (dec_lt u m) [ yes b ↦ before u b | no b ↦ subst P (omega (arith, at, on, h, b)) here ]
 
 never : false ≡ true → ⊥
 never e = let z : ◌≡◌ {A = ℕ} 0 1 = cc in omega arith
 
-pub followers-init : goal.followers-init
-followers-init c =
-    let os = c.args.order.now in
-    let l = c.args.stays.now in
-    let t = c.trials.tried in
-    let e = turned_first t os (omega arith) in
-    let from : ℕ = (get_or l (get_or os t 0) no_stay).window.from in
-    let i : vec_items c.push.new.self ≡ from ∷ [] =
-    c.in_ok-push.ensures.items ∙ ap (λ v. v ++ from ∷ []) c.new-times.ensures.items in
-    (omega arith, rw (e, i) (refl, tt), rw e refl, rw i refl)
-
 -- A follower that has no time of 64 bits.
-pub trials-preserved-in_default : goal.trials-preserved-in_default
-trials-preserved-in_default c =
+pub trials-preserved-in_default-next_time : goal.trials-preserved-in_default-next_time
+trials-preserved-in_default-next_time c =
     let C = c.args.ring.ticks in
     let p = c.args.ratio.over in
     let q = c.args.ratio.under in
     let l = c.args.stays.now in
     let os = c.args.order.now in
-    let t = c.trials.tried in
+    let t = c.in-Some.t in
+    let at : t ≡ c.trials.starts.start = search rules in
     let k = c.followers.k in
-    let i = c.if-t-k.i in
-    let pl : Place (length os) t k i = elim c.if-t-k.branch [ then-t-k w ↦ inl (w.if-t-k.true, w.i-is) | else-t-k w ↦ inr (w.if-t-k.false, w.i-is) ] in
+    let i : ℕ = (t + k) % length os in
+    let pl : Place (length os) t k i = place_round (length os) t k (search rules) (omega arith) in
     let v = c.followers.invariant in
     let b = get_or l (get_or os i 0) no_stay in
     let m = least_exists C p q l c.args.ring.bounds.0 c.args.ratio.whole c.followers.last c.followers.at b in
-    let late : 2 ^ 64 ≤ m.0 = c.in_default.ensures m.0 m.1.holds m.1.apart in
+    let late : 2 ^ 64 ≤ m.0 = c.in_default-next_time.ensures m.0 m.1.holds m.1.apart in
+    let on : c.next.new.self.start ≡ t + 1 = search rules in
+    let end : c.next.new.self.end ≡ length os = search rules in
+    let below : t < length os = search rules in
     let low : (get_or l (get_or os t 0) no_stay).window.from < C = (c.requires.0 (get_or os t 0) (c.requires.1.1 t (omega (arith, c.requires.1.0)))).from in (
-      omega arith,
-      below_more _ _ c.trials.invariant.1 (late_more C p q l t k i os (vec_items c.followers.times) c.followers.last c.followers.at m.0 c.args.ratio.whole (omega arith) (omega arith) pl v.1 v.2 v.3 m.1 (omega (arith, late, low, c.args.ring.bounds.1))),
+      omega (arith, on, end, below),
+      end,
+      one_more _ _ _ _ at on c.trials.invariant.2 (late_more C p q l t k i os (vec_items c.followers.times) c.followers.last c.followers.at m.0 c.args.ratio.whole (omega arith) (omega arith) pl v.1 v.2 v.3 m.1 (omega (arith, late, low, c.args.ring.bounds.1))),
     )
 
 -- A follower that comes after the end.
@@ -51,13 +49,18 @@ trials-preserved-then-time-end c =
     let q = c.args.ratio.under in
     let l = c.args.stays.now in
     let os = c.args.order.now in
-    let t = c.trials.tried in
+    let t = c.in-Some.t in
+    let at : t ≡ c.trials.starts.start = search rules in
     let k = c.followers.k in
-    let i = c.if-t-k.i in
-    let pl : Place (length os) t k i = elim c.if-t-k.branch [ then-t-k w ↦ inl (w.if-t-k.true, w.i-is) | else-t-k w ↦ inr (w.if-t-k.false, w.i-is) ] in
+    let i : ℕ = (t + k) % length os in
+    let pl : Place (length os) t k i = place_round (length os) t k (search rules) (omega arith) in
+    let on : c.next.new.self.start ≡ t + 1 = search rules in
+    let end : c.next.new.self.end ≡ length os = search rules in
+    let below : t < length os = search rules in
     let v = c.followers.invariant in (
-      omega arith,
-      below_more _ _ c.trials.invariant.1 (late_more C p q l t k i os (vec_items c.followers.times) c.followers.last c.followers.at c.in-Some.time c.args.ratio.whole (omega arith) (omega arith) pl v.1 v.2 v.3 c.in-Some.ensures (omega (arith, c.if-time-end.true, c.ticks.ensures))),
+      omega (arith, on, end, below),
+      end,
+      one_more _ _ _ _ at on c.trials.invariant.2 (late_more C p q l t k i os (vec_items c.followers.times) c.followers.last c.followers.at c.in-Some-next_time.time c.args.ratio.whole (omega arith) (omega arith) pl v.1 v.2 v.3 c.in-Some-next_time.ensures (omega (arith, c.if-time-end.true, c.ticks.ensures))),
     )
 
 pub followers-preserved : goal.followers-preserved
@@ -67,18 +70,19 @@ followers-preserved c =
     let q = c.args.ratio.under in
     let l = c.args.stays.now in
     let os = c.args.order.now in
-    let t = c.trials.tried in
+    let t = c.in-Some.t in
+    let at : t ≡ c.trials.starts.start = search rules in
     let k = c.followers.k in
-    let i = c.if-t-k.i in
-    let ht : t < length os = omega arith in
+    let i : ℕ = (t + k) % length os in
+    let ht : t < length os = search rules in
     let hk : k < length os = omega arith in
-    let pl : Place (length os) t k i = elim c.if-t-k.branch [ then-t-k w ↦ inl (w.if-t-k.true, w.i-is) | else-t-k w ↦ inr (w.if-t-k.false, w.i-is) ] in
+    let pl : Place (length os) t k i = place_round (length os) t k (search rules) (omega arith) in
     let v = c.followers.invariant in
-    let e : vec_items c.push-in-followers.new.self ≡ vec_items c.followers.times ++ c.in-Some.time ∷ [] = c.in_ok-push-2.ensures.items in (
+    let e : vec_items c.push-in-followers.new.self ≡ vec_items c.followers.times ++ c.in-Some-next_time.time ∷ [] = c.in_ok-push-2.ensures.items in (
       c.if-time-end.false,
-      rw e (trial_more C p q l t k i os (vec_items c.followers.times) c.followers.last c.followers.at c.in-Some.time ht hk pl v.1 v.2 v.3 c.in-Some.ensures),
+      rw e (trial_more C p q l t k i os (vec_items c.followers.times) c.followers.last c.followers.at c.in-Some-next_time.time ht hk pl v.1 v.2 v.3 c.in-Some-next_time.ensures),
       last_more C p q l t k i os ht hk pl,
-      rw e (last_push 0 (vec_items c.followers.times) c.in-Some.time),
+      rw e (last_push 0 (vec_items c.followers.times) c.in-Some-next_time.time),
     )
 
 -- The whole trial does not close.
@@ -89,13 +93,18 @@ trials-preserved c =
     let q = c.args.ratio.under in
     let l = c.args.stays.now in
     let os = c.args.order.now in
-    let t = c.trials.tried in
+    let t = c.in-Some.t in
+    let at : t ≡ c.trials.starts.start = search rules in
     let v = c.followers.invariant in
     let first = get_or l (get_or os t 0) no_stay in
     let P : ℕ → Type 0 = λ m. Apart p q c.followers.last c.followers.at first (first.window.from + m) in
+    let on : c.next.new.self.start ≡ t + 1 = search rules in
+    let end : c.next.new.self.end ≡ length os = search rules in
+    let below : t < length os = search rules in
     let w = whole_trial C p q l t c.followers.k os (vec_items c.followers.times) c.followers.last c.followers.at (omega arith) c.followers-test.false v.1 v.2 v.3 in (
-      omega arith,
-      below_more _ _ c.trials.invariant.1 (open_fails C p q l (turned t os) (vec_items c.followers.times) w.0 (λ k. never (c.if-is_apart.ensures.1 (subst P (sym c.ticks.ensures) (w.2 k))))),
+      omega (arith, on, end, below),
+      end,
+      one_more _ _ _ _ at on c.trials.invariant.2 (open_fails C p q l (turned t os) (vec_items c.followers.times) w.0 (λ k. never (c.if-is_apart.ensures.1 (subst P (sym c.ticks.ensures) (w.2 k))))),
     )
 
 pub returns : goal.returns
@@ -105,14 +114,16 @@ returns c =
     let q = c.args.ratio.under in
     let l = c.args.stays.now in
     let os = c.args.order.now in
-    let t = c.trials.tried in
     let G = λ (o : _). Found C p q l os o in
-    elim c.if-tried-n.branch [
-      | then-tried-n w ↦
-          subst G (sym w.found-is) (none_seated C p q l c.args.ring.bounds.0 c.args.ratio.whole c.requires.0 os c.requires.1 (λ u h. c.trials.invariant.1 u (omega (arith, w.if-tried-n.true))))
-      | else-tried-n+in_ok-push+else-followers-test+then-is_apart w ↦
+    elim c.match-next.branch [
+      | in_default w ↦
+          let done : length os ≤ c.trials.starts.start = search rules in
+          subst G (sym w.found-is) (none_seated C p q l c.args.ring.bounds.0 c.args.ratio.whole c.requires.0 os c.requires.1 (λ u h. c.trials.invariant.2 u (omega (arith, h, done))))
+      | in-Some+in_ok-push+else-followers-test+then-is_apart w ↦
+          let t = w.in-Some.t in
+          let at : t ≡ c.trials.starts.start = search rules in
+          let ht : t < length os = search rules in
           let v = w.followers.invariant in
-          let ht : t < length os = omega arith in
           let first = get_or l (get_or os t 0) no_stay in
           let P : ℕ → Type 0 = λ m. Apart p q w.followers.last w.followers.at first (first.window.from + m) in
           let f = whole_trial C p q l t w.followers.k os (vec_items w.followers.times) w.followers.last w.followers.at ht w.followers-test.false v.1 v.2 v.3 in
@@ -120,7 +131,7 @@ returns c =
             place = ht;
             trial = f.0;
             closes = f.1 (subst P w.ticks.ensures (w.if-is_apart.ensures.0 refl));
-            earlier = λ u us h g k. fails_open C p q l (turned u os) us (c.trials.invariant.1 u h) g k;
+            earlier = λ u us h g k. fails_open C p q l (turned u os) us (c.trials.invariant.2 u (omega (arith, at, h))) g k;
           } in
           subst G (sym w.found-is) (is-first, first_seated C p q l c.args.ring.bounds.0 c.args.ratio.whole c.requires.0 os t (vec_items w.followers.times) c.requires.1 is-first)
     ]

@@ -14,8 +14,9 @@ invariant-followers l =
 
 abbrev pub invariant-trials : goal.invariant-trials
 invariant-trials l =
-    (l.tried ≤ length l.order)
-    × ((u : ℕ) → u < l.tried → Fails l.ring.ticks l.ratio.over l.ratio.under l.stays (turned u l.order))
+    (l.starts.start ≤ length l.order)
+    × (l.starts.end ≡ length l.order)
+    × ((u : ℕ) → u < l.starts.start → Fails l.ring.ticks l.ratio.over l.ratio.under l.stays (turned u l.order))
 
 abbrev pub decreases-trials : goal.decreases-trials
-decreases-trials l = l.n - l.tried
+decreases-trials l = l.n - l.starts.start
