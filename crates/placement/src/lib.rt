@@ -11,6 +11,6 @@ mod seatings;
 mod stays;
 mod windows;
 
-pub use seatings::{Seating, is_order};
+pub use seatings::{Seating, is_order, own_order};
 pub use stays::{Stay, all_in_bounds};
 pub use windows::Window;

@@ -1,5 +1,5 @@
-ghost use Rattle.std.specs.Prelude.{◌≡◌, ℕ, suc, ◌+◌, ◌-◌, ◌*◌, ◌/◌, ◌<◌, ◌^◌, ◌≤◌, true, List, ◌++◌, map, length, take, drop, vec_len, MatchOption, slice_index, position, ◌==◌, nat_lt};
-ghost use Rattle.std.specs.List.{list_all};
+ghost use Rattle.std.specs.Prelude.{◌≡◌, ℕ, suc, ◌+◌, ◌-◌, ◌*◌, ◌/◌, ◌<◌, ◌^◌, ◌≤◌, true, List, ◌++◌, map, length, take, drop, vec_len, IfOk, MatchOption, slice_index, position, ◌==◌, nat_lt};
+ghost use Rattle.std.specs.List.{list_all, range_with_len};
 ghost use Rattle.ring.specs.Questions.{Tells};
 ghost use Rattle.placement.specs.Seatings.{plan, no_plan, FirstPlace, HasPosition, position_of, Order, Fine, Lawful, planned, Plan, Seated, Small, Sound, turned, begun, begun_again, fallen, left_out, without};
 ghost use Rattle.placement.specs.Keeps.{Begun, Left};
@@ -8,7 +8,7 @@ ghost use Rattle.placement.specs.Worked.{WorkedSeatings};
 
 use crate::stays::Stay;
 use ring::{Pace, Ring};
-use std::alloc::Global;
+use std::alloc::{AllocError, Global};
 
 // An order of a list's stays, by their index in the list, and a time for each, in that order. Any
 // order and any times may be handed in; `lawful` tells the good ones.
@@ -29,6 +29,13 @@ fn find(order: &[usize], stay: usize) -> Option<usize>
     ensures { FirstPlace stay order.now result }
 {
     first_at(order, stay)
+}
+
+// The order of a list of n stays as it stands: 0, 1, 2 and so on.
+pub fn own_order(heap: Global, n: usize) -> Result<Vec<usize>, AllocError>
+    ensures { IfOk result (λ v. v.items ≡ range_with_len 0 n) }
+{
+    (0..n).collect(heap)
 }
 
 // Whether the order holds each index below n once.

@@ -1,7 +1,6 @@
 -- What a seater means, what it answers, and the rules that every seater keeps.
 use Rattle.std.specs.Prelude.{◌≡◌, ℕ, ◌<◌, ◌≤◌, List, [], length, Ok, Err, Result, slice_index_or, slice_set}
 use Rattle.std.specs.List.{remove}
-use Rattle.std.specs.declared.alloc.AllocError.{AllocError}
 use Rattle.ring.specs.declared.measures.Ring.{Ring}
 use Rattle.ring.specs.declared.measures.Pace.{Pace}
 use Rattle.placement.specs.Windows.{Holds}
@@ -9,8 +8,8 @@ use Rattle.placement.specs.Stays.{Narrowed, no_stay}
 use Rattle.placement.specs.Seatings.{Plan, Lawful, no_plan, time_of, without}
 use Rattle.placement.specs.Arcs.{InBounds}
 use Rattle.placement.specs.declared.stays.Stay.{Stay}
-use Rattle.seaters.specs.declared.seaters.Outcome.{Outcome}
-use Rattle.seaters.specs.declared.seaters.Outcome.TheVariants.{NotTaken, NoneGranted, Seated}
+use Rattle.seaters.specs.declared.nos.NotSeated.{NotSeated}
+use Rattle.seaters.specs.declared.nos.NotSeated.TheVariants.{NotTaken, NoneGranted, NoMemory}
 
 -- Which lists a seater takes on a ring, which seatings of a list it grants at a pace, and which of
 -- them it may give.
@@ -20,11 +19,11 @@ pub record Meaning : Type 1 where
   pub gives : Ring → Pace → List Stay → Plan → Type 0
 
 -- What a seater answers for a list, where the place held the seating `old` and then holds `new`.
-abbrev pub Told : Meaning → Ring → Pace → List Stay → Plan → Result Outcome AllocError → Plan → Type 0
-Told M c v l old (Ok NotTaken) new = (M.takes c l → ⊥) × (new ≡ old)
-Told M c v l old (Ok NoneGranted) new = M.takes c l × ((s : Plan) → M.grants c v l s → ⊥) × (new ≡ old)
-Told M c v l old (Ok Seated) new = M.takes c l × M.grants c v l new × M.gives c v l new
-Told M c v l old (Err e) new = new ≡ old
+abbrev pub Told : Meaning → Ring → Pace → List Stay → Plan → Result (Unit {0}) NotSeated → Plan → Type 0
+Told M c v l old (Err NotTaken) new = (M.takes c l → ⊥) × (new ≡ old)
+Told M c v l old (Err NoneGranted) new = M.takes c l × ((s : Plan) → M.grants c v l s → ⊥) × (new ≡ old)
+Told M c v l old (Err NoMemory) new = new ≡ old
+Told M c v l old (Ok u) new = M.takes c l × M.grants c v l new × M.gives c v l new
 
 pub record Rules (M : Meaning) : Type 0 where
   -- what is granted is lawful, and its list taken

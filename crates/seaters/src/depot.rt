@@ -4,7 +4,8 @@ ghost use Rattle.placement.specs.declared.stays.Stay.{Stay};
 ghost use Rattle.seaters.specs.Layers.{depot_means};
 ghost use Rattle.seaters.specs.DepotRules.{depot_rules};
 
-use crate::seaters::{Outcome, Seater};
+use crate::nos::NotSeated;
+use crate::seaters::Seater;
 use placement::{Seating, Stay};
 use ring::{Pace, Ring};
 use std::alloc::{AllocError, Global};
@@ -41,22 +42,17 @@ impl<S: Seater> Seater for Depot<S> {
         pace: Pace,
         stays: &[Stay],
         place: &mut Seating,
-    ) -> Result<Outcome, AllocError> {
+    ) -> Result<(), NotSeated> {
         if stays.is_empty() {
             *place = Seating::empty(heap);
-            return Ok(Outcome::Seated);
+            return Ok(());
         }
         granted_is_sound(&self.below, ring, pace);
         let list = with_last(heap, stays, self.depot)?;
         let mut longer = Seating::empty(heap);
-        match self.below.seat(heap, ring, pace, &list, &mut longer)? {
-            Outcome::NotTaken => Ok(Outcome::NotTaken),
-            Outcome::NoneGranted => Ok(Outcome::NoneGranted),
-            Outcome::Seated => {
-                longer.without(ring, stays.len());
-                *place = longer;
-                Ok(Outcome::Seated)
-            }
-        }
+        self.below.seat(heap, ring, pace, &list, &mut longer)?;
+        longer.without(ring, stays.len());
+        *place = longer;
+        Ok(())
     }
 }

@@ -10,11 +10,13 @@
 mod depot;
 mod list_order;
 mod margin;
+mod nos;
 mod piles;
 mod seaters;
 
 pub use depot::Depot;
 pub use list_order::ListOrder;
 pub use margin::Margin;
+pub use nos::NotSeated;
 pub use piles::seat_between_depots;
-pub use seaters::{Outcome, Seater};
+pub use seaters::Seater;

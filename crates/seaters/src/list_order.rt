@@ -1,5 +1,4 @@
-ghost use Rattle.std.specs.Prelude.{◌≡◌, IfOk};
-ghost use Rattle.std.specs.List.{range_with_len};
+ghost use Rattle.std.specs.Prelude.{◌≡◌};
 ghost use Rattle.placement.specs.Seatings.{Seated, plan};
 ghost use Rattle.trials.specs.Trials.{Answers, Given};
 ghost use Rattle.seaters.specs.Meanings.{Told};
@@ -7,26 +6,16 @@ ghost use Rattle.seaters.specs.Worked.{Worked};
 ghost use Rattle.seaters.specs.ListOrders.{Decided, FirstBegun, InListOrder, order_of_list, list_order_means};
 ghost use Rattle.seaters.specs.ListRules.{list_order_rules};
 
-use crate::seaters::{Outcome, Seater};
-use placement::{Seating, Stay};
+use crate::nos::NotSeated;
+use crate::seaters::Seater;
+use placement::{Seating, Stay, own_order};
 use ring::{Pace, Ring};
-use std::alloc::{AllocError, Global};
-use trials::{Tried, try_order};
+use std::alloc::Global;
+use trials::{NoSeating, try_order};
 
 // Keeps the order of the list.
 #[derive(Clone, Copy)]
 pub struct ListOrder;
-
-// 0, 1, 2 and so on, n of them.
-fn counted(heap: Global, n: usize) -> Result<Vec<usize>, AllocError>
-    ensures { IfOk result (λ v. v.items ≡ range_with_len 0 n) }
-{
-    let mut order = Vec::new(heap);
-    for i in 0..n {
-        order.push(i)?;
-    }
-    Ok(order)
-}
 
 fn trials_decide(ring: Ring, pace: Pace, stays: &[Stay])
     ensures worked { Worked }
@@ -34,11 +23,11 @@ fn trials_decide(ring: Ring, pace: Pace, stays: &[Stay])
 {}
 
 // Tries the list in its own order.
-fn try_list(heap: Global, ring: Ring, pace: Pace, stays: &[Stay]) -> Result<Tried, AllocError>
-    ensures { IfOk result (λ t. Answers ring.ticks pace.p pace.q stays.now (order_of_list stays.now) t) }
+fn try_list(heap: Global, ring: Ring, pace: Pace, stays: &[Stay]) -> Result<Seating, NoSeating>
+    ensures { Answers ring.ticks pace.p pace.q stays.now (order_of_list stays.now) result }
 {
-    let order = counted(heap, stays.len())?;
-    try_order(heap, ring, pace.ratio(), stays, &order)
+    let order = own_order(heap, stays.len())?;
+    try_order(heap, ring, pace.into(), stays, &order)
 }
 
 // The first closing trial, begun again at the list's first.
@@ -63,23 +52,17 @@ impl Seater for ListOrder {
         pace: Pace,
         stays: &[Stay],
         place: &mut Seating,
-    ) -> Result<Outcome, AllocError>
+    ) -> Result<(), NotSeated>
         ensures told { Told list_order_means ring pace stays.now (plan place.old) result (plan place.new) }
         ensures worked { Worked }
     {
         trials_decide(ring, pace, stays);
         if stays.len() > 64 {
-            return Ok(Outcome::NotTaken);
+            return Err(NotSeated::NotTaken);
         }
-        match try_list(heap, ring, pace, stays)? {
-            Tried::OutOfBounds => Ok(Outcome::NotTaken),
-            Tried::NotAnOrder => Ok(Outcome::NotTaken),
-            Tried::Fails => Ok(Outcome::NoneGranted),
-            Tried::Seats(mut seating) => {
-                begin_at_first(ring, pace, stays, &mut seating);
-                *place = seating;
-                Ok(Outcome::Seated)
-            }
-        }
+        let mut seating = try_list(heap, ring, pace, stays)?;
+        begin_at_first(ring, pace, stays, &mut seating);
+        *place = seating;
+        Ok(())
     }
 }

@@ -4,7 +4,8 @@ ghost use Rattle.placement.specs.Stays.{no_stay};
 ghost use Rattle.seaters.specs.Layers.{Widens, widened, margin_means};
 ghost use Rattle.seaters.specs.MarginRules.{margin_rules};
 
-use crate::seaters::{Outcome, Seater};
+use crate::nos::NotSeated;
+use crate::seaters::Seater;
 use placement::{Seating, Stay};
 use ring::{Pace, Ring};
 use std::alloc::{AllocError, Global};
@@ -34,9 +35,8 @@ fn widen(stay: &Stay, margin: u32) -> Stay
     ensures { result ≡ widened margin stay.now }
 {
     Stay {
-        window: stay.window,
-        lead: stay.lead,
         trail: stay.trail + margin,
+        ..*stay
     }
 }
 
@@ -64,13 +64,13 @@ impl<S: Seater> Seater for Margin<S> {
         pace: Pace,
         stays: &[Stay],
         place: &mut Seating,
-    ) -> Result<Outcome, AllocError> {
+    ) -> Result<(), NotSeated> {
         if stays.is_empty() {
             *place = Seating::empty(heap);
-            return Ok(Outcome::Seated);
+            return Ok(());
         }
         if self.margin > 1_000 || !all_widen(ring, stays, self.margin) {
-            return Ok(Outcome::NotTaken);
+            return Err(NotSeated::NotTaken);
         }
         let list = widen_all(heap, stays, self.margin)?;
         self.below.seat(heap, ring, pace, &list, place)

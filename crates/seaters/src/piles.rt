@@ -1,16 +1,16 @@
-ghost use Rattle.std.specs.Prelude.{◌≡◌, List, Ok};
+ghost use Rattle.std.specs.Prelude.{List, OnOk};
 ghost use Rattle.placement.specs.Seatings.{Lawful, Plan, plan};
 ghost use Rattle.placement.specs.declared.stays.Stay.{Stay};
 ghost use Rattle.seaters.specs.Layers.{depot_means, margin_means};
 ghost use Rattle.seaters.specs.Meanings.{Told};
-ghost use Rattle.seaters.specs.declared.seaters.Outcome.TheVariants.{Seated};
 
 use crate::depot::Depot;
 use crate::margin::Margin;
-use crate::seaters::{Outcome, Seater};
+use crate::nos::NotSeated;
+use crate::seaters::Seater;
 use placement::{Seating, Stay};
 use ring::{Pace, Ring};
-use std::alloc::{AllocError, Global};
+use std::alloc::Global;
 
 fn granted_is_lawful<S: Seater>(seater: &S, ring: Ring, pace: Pace)
     ensures { (l : List Stay) (s : Plan) → (S.Seater.means seater.now).grants ring pace l s → Lawful ring.ticks pace.p pace.q l s }
@@ -25,9 +25,9 @@ pub fn seat_between_depots<S: Seater>(
     pace: Pace,
     stays: &[Stay],
     place: &mut Seating,
-) -> Result<Outcome, AllocError>
+) -> Result<(), NotSeated>
     ensures told { Told (margin_means pile.now.margin (depot_means pile.now.below.depot (depot_means pile.now.below.below.depot (S.Seater.means pile.now.below.below.below)))) ring pace stays.now (plan place.old) result (plan place.new) }
-    ensures lawful { result ≡ Ok Seated → Lawful ring.ticks pace.p pace.q stays.now (plan place.new) }
+    ensures lawful { OnOk result (Lawful ring.ticks pace.p pace.q stays.now (plan place.new)) }
 {
     granted_is_lawful(pile, ring, pace);
     pile.seat(heap, ring, pace, stays, place)
