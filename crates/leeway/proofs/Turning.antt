@@ -12,8 +12,10 @@ use Rattle.placement.proofs.Distinct.{Distinct}
 use Rattle.placement.proofs.Orders.{order_lists, order_turned, place_is, place_order, turned_twice}
 use Rattle.ring.specs.Questions.{Tells}
 use Rattle.trials.specs.Trials.{Answers, Given}
-use Rattle.trials.specs.declared.tries.Tried.{Tried}
-use Rattle.trials.specs.declared.tries.Tried.TheVariants.{OutOfBounds, NotAnOrder, Fails, Seats}
+use Rattle.std.specs.Prelude.{Result, Ok, Err}
+use Rattle.placement.specs.declared.seatings.Seating.{Seating}
+use Rattle.trials.specs.declared.nos.NoSeating.{NoSeating}
+use Rattle.trials.specs.declared.nos.NoSeating.TheVariants.{OutOfBounds, NotAnOrder, NoneCloses, NoMemory}
 use Rattle.trials.proofs.Pushes.{length_turned}
 use Rattle.leeway.specs.Leeways.{Asked, BegunAs, Decided, SeatsIn, Shown, is_seated}
 
@@ -76,17 +78,22 @@ module _ (C p q : ℕ) (l : List Stay) (hC : 1 ≤ C) (hq : 1 ≤ q) where
       let k = g.1 (omega arith) in
       seats_unturned (a ∷ os) k.place (omega (arith, k.first.place)) (record { times = k.times; seated = subst (λ v. Seated C p q l v) k.is h })
 
+-- A seating is no refusal.
+pub seated_not_err : (s : Seating) {E : Type 0} {e : E} → Ok s ≡ Err e → ⊥
+seated_not_err s h = let z : ◌≡◌ {A = ℕ} 0 1 = ap (λ r. elim r [ Ok x ↦ 0 | Err y ↦ 1 ]) h in omega arith
+
 pub decided : (C p q : ℕ) (l : List Stay) (os : List ℕ) → 1 ≤ C → 1 ≤ q → Decided C p q l os
 decided C p q l os hC hq = record { tells = at }
   where
     no : (P : Type 0) → (P → ⊥) → Tells false P
     no P n = ((λ e. let z : ◌≡◌ {A = ℕ} 0 1 = cc in absurd (omega arith)), λ h. absurd (n h))
 
-    at : (t : Tried) → Asked C l os → Answers C p q l os t → Tells (is_seated t) (SeatsIn C p q l os)
-    at OutOfBounds A a = no _ (λ s. a A.bounds)
-    at NotAnOrder A a = no _ (λ s. a.1 A.order)
-    at Fails A a = no _ (λ s. a.2 s.times s.seated)
-    at (Seats s) A a = ((λ e. in_order C p q l hC hq os (plan s) a.1 a.2 a.3), λ h. refl)
+    at : (t : Result Seating NoSeating) → Asked C l os → Answers C p q l os t → (t ≡ Err NoMemory → ⊥) → Tells (is_seated t) (SeatsIn C p q l os)
+    at (Err OutOfBounds) A a n = no _ (λ s. a A.bounds)
+    at (Err NotAnOrder) A a n = no _ (λ s. a.1 A.order)
+    at (Err NoneCloses) A a n = no _ (λ s. a.2 s.times s.seated)
+    at (Err NoMemory) A a n = absurd (n refl)
+    at (Ok s) A a n = ((λ e. in_order C p q l hC hq os (plan s) a.1 a.2 a.3), λ h. refl)
 
 -- The first closing trial, begun again at the list's first, is shown of the fraction.
 pub shown : (C p q : ℕ) (l : List Stay) (os : List ℕ) → 1 ≤ C → C ≤ 86400 → 1 ≤ q → Asked C l os → (s u : Plan) → Given C p q l os s → Seated C p q l s → BegunAs C s u → Shown C p q l os u

@@ -8,11 +8,12 @@ use Rattle.placement.specs.Arcs.{InBounds}
 use Rattle.placement.specs.declared.stays.Stay.{Stay}
 use Rattle.ring.specs.Questions.{Tells}
 use Rattle.trials.specs.Trials.{Answers as TriedAnswers, Given}
-use Rattle.trials.specs.declared.tries.Tried.{Tried}
-use Rattle.trials.specs.declared.tries.Tried.TheVariants.{OutOfBounds as TriedOut, NotAnOrder as TriedNone, Fails, Seats}
-use Rattle.leeway.specs.declared.leeways.NoLeeway.{NoLeeway}
+use Rattle.placement.specs.declared.seatings.Seating.{Seating}
+use Rattle.trials.specs.declared.nos.NoSeating.{NoSeating}
+use Rattle.trials.specs.declared.nos.NoSeating.TheVariants.{NoMemory as NoTrial}
+use Rattle.leeway.specs.declared.nos.NoLeeway.{NoLeeway}
 use Rattle.leeway.specs.declared.leeways.Tightest.{Tightest}
-use Rattle.leeway.specs.declared.leeways.NoLeeway.TheVariants.{NoStay, OutOfBounds, NotAnOrder, NoRoom, NoMemory}
+use Rattle.leeway.specs.declared.nos.NoLeeway.TheVariants.{NoStay, OutOfBounds, NotAnOrder, NoRoom, NoMemory}
 
 -- At the fraction p/q the list has a seating in the order os, over whole ticks.
 pub record SeatsIn (C p q : ℕ) (l : List Stay) (os : List ℕ) : Type 0 where
@@ -86,15 +87,15 @@ pub record Shown (C P Q : ℕ) (l : List Stay) (os : List ℕ) (s : Plan) : Type
   pub lawful : Lawful C P Q l s
   pub order : s.order ≡ turned (place_of 0 os) os
 
--- Trying an order of the list tells whether it has a seating in it.
-abbrev pub is_seated : Tried → Bool
-is_seated TriedOut = false
-is_seated TriedNone = false
-is_seated Fails = false
-is_seated (Seats s) = true
+-- Trying an order of the list tells whether it has a seating in it, unless memory was wanting.
+abbrev pub is_seated : Result Seating NoSeating → Bool
+is_seated (Ok s) = true
+is_seated (Err e) = false
 
 pub record Decided (C p q : ℕ) (l : List Stay) (os : List ℕ) : Type 0 where
-  pub tells : (t : Tried) → Asked C l os → TriedAnswers C p q l os t → Tells (is_seated t) (SeatsIn C p q l os)
+  pub tells :
+      (t : Result Seating NoSeating) → Asked C l os → TriedAnswers C p q l os t → (t ≡ Err NoTrial → ⊥)
+      → Tells (is_seated t) (SeatsIn C p q l os)
 
 -- u is s begun again at the list's first, as far as s can be counted with.
 abbrev pub BegunAs : ℕ → Plan → Plan → Type 0

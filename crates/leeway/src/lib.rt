@@ -6,6 +6,9 @@
 
 #![tactic(auto)]
 
+mod courses;
 mod leeways;
+mod nos;
 
-pub use leeways::{NoLeeway, Tightest, leeway, tightest_seating};
+pub use leeways::{Tightest, leeway, tightest_seating};
+pub use nos::NoLeeway;

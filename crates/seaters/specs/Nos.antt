@@ -14,5 +14,5 @@ by_trials NoMemory = NotSeated.NoMemory
 
 abbrev pub no_text : NotSeated → List ℕ
 no_text NotTaken = codes "not taken"
-no_text NoneGranted = codes "none granted"
+no_text NoneGranted = codes "not granted"
 no_text NotSeated.NoMemory = codes "no memory"

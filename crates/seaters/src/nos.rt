@@ -24,7 +24,7 @@ impl fmt::Display for NotSeated {
     fn fmt<W: fmt::Write>(&self, f: &mut fmt::Formatter<W>) -> fmt::Result {
         f.write_str(match self {
             NotSeated::NotTaken => "not taken",
-            NotSeated::NoneGranted => "none granted",
+            NotSeated::NoneGranted => "not granted",
             NotSeated::NoMemory => "no memory",
         })
     }

@@ -25,5 +25,6 @@ pub fn next_time(ring: Ring, ratio: Ratio, a: &Stay, x: u64, b: &Stay) -> Option
     let Ok(low) = u64::try_from(low) else {
         return None;
     };
-    b.window.earliest(ring, low)
+    let y = b.window.earliest(ring, low)?;
+    Some(y)
 }

@@ -1,19 +1,16 @@
-use Rattle.std.proofs.Common.{subst}
+use Rattle.std.proofs.Common.{ℕ, Ok, subst}
 use Rattle.placement.specs.Seatings.{plan}
 use Rattle.trials.specs.Trials.{Answers}
-use Rattle.trials.specs.declared.tries.Tried.TheVariants.{Seats}
 use Rattle.leeway.proofs.leeways.tightest_seating.Goals as goal
 
-pub returns : goal.returns
-returns c =
+pub returns-in-Ok : goal.returns-in-Ok
+returns-in-Ok c =
     let C = c.args.ring.ticks in
     let l = c.args.stays.now in
     let os = c.args.order.now in
-    let most = c.in_ok-most.most in
-    let told = c.in_ok-most.ensures.answers in
-    let e = c.ratio-2.ensures in
-    let a : Answers C c.ratio-2.result.over c.ratio-2.result.under l os c.in_ok-seating.field-0 = c.in_ok-seating.ensures.answers in
-    let a' = subst (λ t. Answers C c.ratio-2.result.over c.ratio-2.result.under l os t) c.in-Seats.is a in
-    let a'' = subst (λ p. Answers C p c.ratio-2.result.under l os (Seats c.in-Seats.seating)) e.0 a' in
-    let b = subst (λ q. Answers C most.over q l os (Seats c.in-Seats.seating)) e.1 a'' in
-    (told, c.greatest_settles.ensures.settled.shown most.over most.under most.whole told.0 (plan c.in-Seats.seating) (plan c.begin_again.new.self) b.2 b.3 c.begin_again.ensures.begins)
+    let most = c.in_ok-leeway.leeway in
+    let told = c.in_ok-leeway.ensures.answers in
+    let e = c.from-ratio.ensures in
+    let a : Answers C c.from-ratio.result.over c.from-ratio.result.under l os (Ok c.in-Ok.seating) = c.in-Ok.ensures.answers in
+    let b = subst (λ (q : ℕ). Answers C most.over q l os (Ok c.in-Ok.seating)) e.1 (subst (λ (p : ℕ). Answers C p c.from-ratio.result.under l os (Ok c.in-Ok.seating)) e.0 a) in
+    (told, c.greatest_settles.ensures.settled.shown most.over most.under most.whole told.0 (plan c.in-Ok.seating) (plan c.begin_again.new.self) b.2 b.3 c.begin_again.ensures.begins)

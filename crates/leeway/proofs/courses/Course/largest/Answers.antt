@@ -1,15 +1,15 @@
 use Rattle.std.proofs.Common.{◌+◌, ◌-◌, ◌/◌, sym, subst, arith}
 use Rattle.leeway.specs.Leeways.{SeatsIn}
 use Rattle.leeway.proofs.Greatest.{below, not_both}
-use Rattle.leeway.proofs.leeways.largest.Goals as goal
+use Rattle.leeway.proofs.courses.Course.largest.Goals as goal
 
 -- Halved downwards: the list has no seating at the middle.
 pub loop-high-preserved : goal.loop-high-preserved
 loop-high-preserved c =
     let v = c.loop-high.invariant in
-    let C = c.args.ring.ticks in
-    let l = c.args.stays.now in
-    let os = c.args.order.now in
+    let C = c.args.self.ring.ticks in
+    let l = c.args.self.stays.now in
+    let os = c.args.self.order.now in
     let g = c.args.from.under in
     let mid = c.loop-high.low + (c.loop-high.high - c.loop-high.low) / 2 in
     let e = c.with_over.ensures in
