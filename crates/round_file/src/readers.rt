@@ -5,8 +5,8 @@ ghost use Rattle.ring.specs.declared.refusals.Refusal.TheVariants.{BytesMissing}
 ghost use Rattle.jobs.specs.Asked.{job_questions};
 ghost use Rattle.jobs.specs.Kinds.{kind_number};
 ghost use Rattle.round_file.specs.Bits.{Octets};
-ghost use Rattle.round_file.specs.Format.{fixed_of, fixed_at, details_of, part, record_questions, size_at};
-ghost use Rattle.round_file.specs.Reading.{told, Stands, Next, Made};
+ghost use Rattle.round_file.specs.Format.{fixed_of, fixed_at, details_of, head_questions, part, record_questions, size_at};
+ghost use Rattle.round_file.specs.Reading.{told, Stands, Begun, Next, Made};
 
 use crate::bits::field_at;
 use crate::cursors::{Cursor, Guard};
@@ -22,6 +22,9 @@ struct Numbers {
     details: RawDetails,
     note: u8,
 }
+
+// The bytes of a record before its note.
+const FIXED_SIZE: usize = 10;
 
 fn numbers_of(fixed: &[u8]) -> Numbers
     requires { length fixed.now ≡ 10 }
@@ -48,12 +51,10 @@ fn take_part<'a>(bytes: &'a [u8], cursor: &mut Cursor, size: usize) -> Result<&'
     ensures cases { MatchResult result (λ b. (cursor.old.place + size ≤ length bytes.now) × (b.now ≡ part bytes.now cursor.old.place size) × (length b.now ≡ size) × (cursor.new.place ≡ cursor.old.place + size)) (λ e. (length bytes.now < cursor.old.place + size) × (e ≡ BytesMissing)) }
     ensures read { cursor.new.read ≡ cursor.old.read }
 {
-    let place = cursor.place;
-    if bytes.len() < place || bytes.len() - place < size {
-        return Err(Refusal::BytesMissing);
-    }
-    cursor.place = place + size;
-    Ok(&bytes[place..place + size])
+    let rest = bytes.get(cursor.place..).ok_or(Refusal::BytesMissing)?;
+    let part = rest.get(..size).ok_or(Refusal::BytesMissing)?;
+    cursor.place += size;
+    Ok(part)
 }
 
 // Puts the questions on a job's numbers, and makes a record of its kind where all say yes.
@@ -64,7 +65,7 @@ fn judge<'a>(ring: Ring, numbers: Numbers, note: Note<'a>) -> Result<Record<'a>,
     let Numbers {
         number,
         details,
-        note: _,
+        ..
     } = numbers;
     let kind = Candidate {
         ring,
@@ -73,10 +74,10 @@ fn judge<'a>(ring: Ring, numbers: Numbers, note: Note<'a>) -> Result<Record<'a>,
     }
     .kind()?;
     let RawDetails {
-        kind: _,
         from,
         width,
         length,
+        ..
     } = details;
     let length = length as u16;
     Ok(match kind {
@@ -110,9 +111,9 @@ fn read_record<'a>(bytes: &'a [u8], ring: Ring, cursor: &mut Cursor) -> Result<R
     ensures { MatchResult result (λ made. AllYes (record_questions ring.ticks bytes.now cursor.old.place) × Stands bytes.now cursor.old.place (told made) × (cursor.new.place ≡ cursor.old.place + size_at bytes.now cursor.old.place) × (cursor.new.read ≡ cursor.old.read + 1)) (λ e. FirstNo (record_questions ring.ticks bytes.now cursor.old.place) (number_of e) × (cursor.new ≡ cursor.old)) }
 {
     let guard = Guard::new(cursor);
-    let numbers = numbers_of(take_part(bytes, guard.cursor, 10)?);
+    let numbers = numbers_of(take_part(bytes, guard.cursor, FIXED_SIZE)?);
     let place = guard.cursor.place;
-    let note = take_part(bytes, guard.cursor, numbers.note as usize)?;
+    let note = take_part(bytes, guard.cursor, usize::from(numbers.note))?;
     let record = judge(ring, numbers, Note { place, bytes: note })?;
     guard.disarm();
     Ok(record)
@@ -136,8 +137,19 @@ impl<'a> Reader<'a> {
         Reader {
             bytes,
             header,
-            cursor: Cursor { place: 6, read: 0 },
+            cursor: Cursor {
+                place: Header::SIZE,
+                read: 0,
+            },
         }
+    }
+
+    // Opens a file, and stands at its first record.
+    pub fn open(bytes: &'a [u8]) -> Result<Reader<'a>, Refusal>
+        ensures { MatchResult result (λ r. Begun bytes.now r) (λ e. FirstNo (head_questions bytes.now) (number_of e)) }
+    {
+        let header = Header::open(bytes)?;
+        Ok(Reader::new(bytes, header))
     }
 
     // The next record, or none once the header's count is reached.
@@ -148,8 +160,7 @@ impl<'a> Reader<'a> {
         if self.cursor.read >= self.header.count {
             return Ok(None);
         }
-        let record = read_record(self.bytes, self.header.ring, &mut self.cursor)?;
-        Ok(Some(record))
+        read_record(self.bytes, self.header.ring, &mut self.cursor).map(Some)
     }
 
     pub fn header(&self) -> Header
