@@ -1,8 +1,9 @@
-ghost use Rattle.std.specs.Prelude.{◌≡◌};
-ghost use Rattle.jobs.specs.Kinds.{kind_number};
+ghost use Rattle.std.specs.Prelude.{◌≡◌, ◌<◌, MatchOption};
+ghost use Rattle.jobs.specs.Kinds.{kind_number, ArmsOf};
+ghost use Rattle.jobs.specs.declared.kinds.Kind.TheVariants as kinds;
 ghost use Rattle.round_file.specs.Reading.{told};
 
-use jobs::{Kind, RawDetails};
+use jobs::{Arms, Kind, RawDetails};
 
 // A record's note: a part of the file's own bytes, with its place in the file.
 #[derive(Clone, Copy, PartialEq, Eq, Debug)]
@@ -87,6 +88,17 @@ impl<'a> Record<'a> {
                 width,
                 length: u32::from(length),
             },
+        }
+    }
+
+    // What the job takes before and after its position, none where a zone's value has no radius.
+    pub fn arms(&self) -> Option<Arms>
+        ensures { MatchOption result (((told self.now).kind ≡ kinds.Zone) × (1023 < (told self.now).length)) (λ a. ArmsOf (told self.now).kind (told self.now).length a) }
+    {
+        match *self {
+            Record::PickUp { length, .. }
+            | Record::Drop { length, .. }
+            | Record::Zone { value: length, .. } => self.kind().arms(length),
         }
     }
 
