@@ -13,6 +13,7 @@ pub struct Note<'a> {
 }
 
 // A record whose questions are answered with yes. A zone has a value where the others have a length.
+// Each case holds its own fields and borrows its note, a rule of the project.
 #[derive(Clone, Copy, PartialEq, Eq, Debug)]
 pub enum Record<'a> {
     PickUp {
