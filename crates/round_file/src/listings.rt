@@ -8,7 +8,7 @@ use ring::{Fault, Refusal, at_record};
 use std::alloc::Global;
 
 // The records of a file up to its end, or up to the first that is refused.
-#[derive(Drop)]
+#[derive(PartialEq, Eq, Debug, Drop)]
 pub struct Listing<'a> {
     pub records: Vec<Record<'a>>,
     // how many bytes are unread

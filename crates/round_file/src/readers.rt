@@ -120,7 +120,7 @@ fn read_record<'a>(bytes: &'a [u8], ring: Ring, cursor: &mut Cursor) -> Result<R
 }
 
 // Reads the records of a file one by one.
-#[derive(Drop)]
+#[derive(PartialEq, Eq, Debug, Drop)]
 pub struct Reader<'a> {
     bytes: &'a [u8],
     header: Header,
