@@ -9,7 +9,7 @@ use Rattle.jobs.specs.declared.kinds.Kind.TheVariants as kinds
 use Rattle.round_file.specs.Format.{fixed_at, fixed_bytes, head_questions, Opened, part, size_at, record_questions}
 use Rattle.round_file.specs.declared.records.Record.{Record}
 use Rattle.round_file.specs.declared.records.Record.TheVariants.{PickUp, Drop, Zone}
-use Rattle.round_file.specs.declared.readers.Numbers.{Numbers}
+use Rattle.round_file.specs.declared.numbers.Numbers.{Numbers}
 use Rattle.round_file.specs.declared.readers.Reader.{Reader}
 use Rattle.round_file.specs.declared.cursors.Cursor.{Cursor}
 

@@ -8,46 +8,64 @@ ghost use Rattle.round_file.specs.Bits.{Octets};
 ghost use Rattle.round_file.specs.Format.{fixed_of, fixed_at, details_of, head_questions, part, record_questions, size_at};
 ghost use Rattle.round_file.specs.Reading.{told, Stands, Begun, Next, Made};
 
-use crate::bits::field_at;
 use crate::cursors::{Cursor, Guard};
 use crate::headers::Header;
+use crate::numbers::Numbers;
 use crate::records::{Note, Record};
 use jobs::{Candidate, Kind, RawDetails};
 use ring::{Refusal, Ring};
 
-// The numbers of a record's fixed part, as its bits say.
-#[derive(Clone, Copy)]
-struct Numbers {
-    number: u32,
-    details: RawDetails,
-    note: u8,
-}
-
-// The bytes of a record before its note.
-const FIXED_SIZE: usize = 10;
-
-fn numbers_of(fixed: &[u8]) -> Numbers
-    requires { length fixed.now ≡ 10 }
-    ensures value { (result.number ≡ (fixed_of fixed.now).number) × (result.details ≡ details_of (fixed_of fixed.now)) × (result.note ≡ (fixed_of fixed.now).note) }
-    ensures small { result.details.length < 65536 }
-    ensures octets { Octets fixed.now }
-{
-    let details = RawDetails {
-        kind: field_at(fixed, 20, 2),
-        from: field_at(fixed, 22, 17),
-        width: field_at(fixed, 39, 17),
-        length: field_at(fixed, 56, 16),
-    };
-    Numbers {
-        number: field_at(fixed, 0, 20),
-        details,
-        note: field_at(fixed, 72, 8) as u8,
+impl Numbers {
+    // Puts the questions on a job's numbers, and makes a record of its kind where all say yes.
+    fn judge<'a>(self, ring: Ring, note: Note<'a>) -> Result<Record<'a>, Refusal>
+        ensures { MatchResult result (λ made. AllYes (job_questions ring.ticks self.number self.details) × Made self note.entry.place note.entry.bytes.now (told made)) (λ e. FirstNo (job_questions ring.ticks self.number self.details) (number_of e)) }
+    {
+        let Numbers {
+            number,
+            details,
+            ..
+        } = self;
+        let kind = Candidate {
+            ring,
+            number,
+            details,
+        }
+        .kind()?;
+        let RawDetails {
+            from,
+            width,
+            length,
+            ..
+        } = details;
+        let length = length as u16;
+        Ok(match kind {
+            Kind::PickUp => Record::PickUp {
+                number,
+                from,
+                width,
+                length,
+                note,
+            },
+            Kind::Drop => Record::Drop {
+                number,
+                from,
+                width,
+                length,
+                note,
+            },
+            Kind::Zone => Record::Zone {
+                number,
+                from,
+                width,
+                value: length,
+                note,
+            },
+        })
     }
 }
 
 // So many bytes at the cursor, which moves past them.
 fn take_part<'a>(bytes: &'a [u8], cursor: &mut Cursor, size: usize) -> Result<&'a [u8], Refusal>
-    requires { size ≤ 255 }
     ensures cases { MatchResult result (λ b. (cursor.old.place + size ≤ length bytes.now) × (b.now ≡ part bytes.now cursor.old.place size) × (length b.now ≡ size) × (cursor.new.place ≡ cursor.old.place + size)) (λ e. (length bytes.now < cursor.old.place + size) × (e ≡ BytesMissing)) }
     ensures read { cursor.new.read ≡ cursor.old.read }
 {
@@ -57,64 +75,16 @@ fn take_part<'a>(bytes: &'a [u8], cursor: &mut Cursor, size: usize) -> Result<&'
     Ok(part)
 }
 
-// Puts the questions on a job's numbers, and makes a record of its kind where all say yes.
-fn judge<'a>(ring: Ring, numbers: Numbers, note: Note<'a>) -> Result<Record<'a>, Refusal>
-    requires { numbers.details.length < 65536 }
-    ensures { MatchResult result (λ made. AllYes (job_questions ring.ticks numbers.number numbers.details) × Made numbers note.entry.place note.entry.bytes.now (told made)) (λ e. FirstNo (job_questions ring.ticks numbers.number numbers.details) (number_of e)) }
-{
-    let Numbers {
-        number,
-        details,
-        ..
-    } = numbers;
-    let kind = Candidate {
-        ring,
-        number,
-        details,
-    }
-    .kind()?;
-    let RawDetails {
-        from,
-        width,
-        length,
-        ..
-    } = details;
-    let length = length as u16;
-    Ok(match kind {
-        Kind::PickUp => Record::PickUp {
-            number,
-            from,
-            width,
-            length,
-            note,
-        },
-        Kind::Drop => Record::Drop {
-            number,
-            from,
-            width,
-            length,
-            note,
-        },
-        Kind::Zone => Record::Zone {
-            number,
-            from,
-            width,
-            value: length,
-            note,
-        },
-    })
-}
-
 // One record, under a guard that puts the cursor back at every refusal.
 fn read_record<'a>(bytes: &'a [u8], ring: Ring, cursor: &mut Cursor) -> Result<Record<'a>, Refusal>
     requires { cursor.old.read < 255 }
     ensures { MatchResult result (λ made. AllYes (record_questions ring.ticks bytes.now cursor.old.place) × Stands bytes.now cursor.old.place (told made) × (cursor.new.place ≡ cursor.old.place + size_at bytes.now cursor.old.place) × (cursor.new.read ≡ cursor.old.read + 1)) (λ e. FirstNo (record_questions ring.ticks bytes.now cursor.old.place) (number_of e) × (cursor.new ≡ cursor.old)) }
 {
     let guard = Guard::new(cursor);
-    let numbers = numbers_of(take_part(bytes, guard.cursor, FIXED_SIZE)?);
+    let numbers = Numbers::of(take_part(bytes, guard.cursor, Numbers::SIZE)?);
     let place = guard.cursor.place;
     let note = take_part(bytes, guard.cursor, usize::from(numbers.note))?;
-    let record = judge(ring, numbers, Note { place, bytes: note })?;
+    let record = numbers.judge(ring, Note { place, bytes: note })?;
     guard.disarm();
     Ok(record)
 }

@@ -10,7 +10,7 @@ returns c = (
     said = search rules;
     written =
         entry_written c.args.bytes.now c.args.cursor.now.place c.in_ok-take_part.field-0.now (told c.in_ok-record.record)
-        (search rules) c.numbers_of-numbers.ensures.octets (search rules) (search rules);
+        (search rules) c.of-numbers.ensures.octets (search rules) (search rules);
   },
   search rules,
   search rules,
