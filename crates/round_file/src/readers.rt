@@ -3,9 +3,7 @@ ghost use Rattle.ring.specs.Questions.{AllYes, FirstNo};
 ghost use Rattle.ring.specs.Refusals.{number_of};
 ghost use Rattle.ring.specs.declared.refusals.Refusal.TheVariants.{BytesMissing};
 ghost use Rattle.jobs.specs.Asked.{job_questions};
-ghost use Rattle.jobs.specs.Kinds.{kind_number};
-ghost use Rattle.round_file.specs.Bits.{Octets};
-ghost use Rattle.round_file.specs.Format.{fixed_of, fixed_at, details_of, head_questions, part, record_questions, size_at};
+ghost use Rattle.round_file.specs.Format.{head_questions, part, record_questions, size_at};
 ghost use Rattle.round_file.specs.Reading.{told, Stands, Begun, Next, Made};
 
 use crate::cursors::{Cursor, Guard};
