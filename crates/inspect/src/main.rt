@@ -2,64 +2,54 @@
 // the fault where there is one. Reads the file from standard input.
 #![tactic(auto)]
 
-use anyhow::anyhow;
-use jobs::Kind;
+use anyhow::ensure;
+use jobs::{Arms, Kind, RawDetails};
 use ring::{Fault, Refusal};
-use round_file::{Header, Listing, Record};
+use round_file::{Header, Listing, Note, Record};
+use std::io;
 use std::io::Read;
 
-fn print_header(rt: &HostRuntime, header: Header) -> anyhow::Result<()> {
-    let ticks = header.ring.ticks();
-    let p = header.pace.p();
-    let q = header.pace.q();
-    let count = header.count;
-    println!(rt; "ring {ticks}, pace {p}/{q}, records {count}")?;
-    Ok(())
+fn print_header(rt: &HostRuntime, header: Header) -> io::Result<()> {
+    let Header { ring, pace, count } = header;
+    println!(rt;
+        "ring {}, pace {}/{}, records {count}",
+        ring.ticks(),
+        pace.p(),
+        pace.q()
+    )
 }
 
-fn print_record(rt: &HostRuntime, index: usize, record: &Record) -> anyhow::Result<()> {
-    let number = record.number();
-    let kind = record.kind();
-    let details = record.details();
-    let word = match kind {
-        Kind::PickUp => "pick-up",
-        Kind::Drop => "drop",
-        Kind::Zone => "zone",
+fn print_record(rt: &HostRuntime, index: usize, record: &Record) -> io::Result<()> {
+    let (kind, number) = (record.kind(), record.number());
+    let RawDetails {
+        from,
+        width,
+        length,
+        ..
+    } = record.details();
+    let measure = match kind {
+        Kind::Zone => "value",
+        _ => "length",
     };
-    let from = details.from;
-    let width = details.width;
-    let length = details.length;
-    print!(rt; "record {index}: {word} {number}, window {from} +{width}, ")?;
-    match kind {
-        Kind::Zone => print!(rt; "value {length}, ")?,
-        _ => print!(rt; "length {length}, ")?,
-    }
-    print_arms(rt, kind, length)?;
-    let note = record.note();
-    let place = note.place;
-    let size = note.bytes.len();
-    println!(rt; "note at {place}, {size} bytes")?;
-    Ok(())
+    print!(rt; "record {index}: {kind} {number}, window {from} +{width}, {measure} {length}, ")?;
+    print_arms(rt, record)?;
+    let Note { place, bytes } = record.note();
+    println!(rt; "note at {place}, {} bytes", bytes.len())
 }
 
-fn print_arms(rt: &HostRuntime, kind: Kind, length: u32) -> anyhow::Result<()> {
-    let length = u16::try_from(length)?;
-    if let Some(arms) = kind.arms(length) {
-        let lead = arms.lead;
-        let trail = arms.trail;
-        if let Kind::Zone = kind {
-            print!(rt; "radius {lead}, ")?;
-        }
-        print!(rt; "lead {lead}, trail {trail}, ")?;
+fn print_arms(rt: &HostRuntime, record: &Record) -> io::Result<()> {
+    let Some(Arms { lead, trail }) = record.arms() else {
+        return Ok(());
+    };
+    if record.kind() == Kind::Zone {
+        print!(rt; "radius {lead}, ")?;
     }
-    Ok(())
+    print!(rt; "lead {lead}, trail {trail}, ")
 }
 
 // A fault is an answer; want of memory is none.
 fn print_fault(rt: &HostRuntime, fault: Fault) -> anyhow::Result<()> {
-    if let Refusal::NoMemory = fault.refusal {
-        return Err(anyhow!("no memory"));
-    }
+    ensure!(fault.refusal != Refusal::NoMemory, "no memory");
     println!(rt; "{fault}")?;
     Ok(())
 }
@@ -76,8 +66,7 @@ fn inspect(rt: &HostRuntime, bytes: &[u8]) -> anyhow::Result<()> {
     for (i, record) in listing.records.iter().enumerate() {
         print_record(rt, i.saturating_add(1), record)?;
     }
-    let left = listing.left;
-    println!(rt; "bytes left {left}")?;
+    println!(rt; "bytes left {}", listing.left)?;
     match listing.fault {
         Some(fault) => print_fault(rt, fault),
         None => Ok(()),

@@ -1,7 +1,6 @@
 -- The rule of the table of radii, from one test over the whole table to each value, and that a
 -- value has one radius.
 use Rattle.std.proofs.Common.{ℕ, zero, suc, ◌+◌, ◌*◌, ◌<◌, ◌≤◌, Bool, true, false, T, ltb, leb, List, [], ◌∷◌, length, get_or, sym, ◌∙◌, subst, le_of_suc-le-suc, not-suc-le-zero, add-zero, add-suc, mul-le-mul, suc-add, zero-add, arith, ltb→lt, leb→le}
-use native.Mathlib.Decide.{dec_lt}
 use Rattle.jobs.specs.Radii.{Radius, OneRadius, both, every, is_radius}
 
 both_left : (a b : Bool) → T (both a b) → T a
@@ -43,7 +42,4 @@ pub one_radius : OneRadius
 one_radius value r s a b =
     let low : r < s → ⊥ = not_below value r s a b in
     let high : s < r → ⊥ = not_below value s r b a in
-    elim (dec_lt r s) [
-      | yes h ↦ absurd (low h)
-      | no h ↦ elim (dec_lt s r) [ yes k ↦ absurd (high k) | no k ↦ omega arith ]
-    ]
+    omega arith

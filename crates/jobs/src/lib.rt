@@ -10,6 +10,6 @@ mod kinds;
 mod radii;
 mod raw;
 
-pub use kinds::{Arms, Kind};
+pub use kinds::{Arms, Kind, UnknownKind};
 pub use radii::radius;
 pub use raw::{Candidate, RawDetails};

@@ -80,9 +80,5 @@ pub fn radius(value: u16) -> Option<u16>
     ensures cases { MatchOption result (1023 < value) (λ x. (value ≤ 1023) × Radius value x) }
     ensures laws { OneRadius × WorkedRadii }
 {
-    let radii = radii();
-    if value > 1_023 {
-        return None;
-    }
-    Some(radii[value as usize])
+    radii().get(usize::from(value)).copied()
 }

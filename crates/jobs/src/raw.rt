@@ -22,16 +22,15 @@ impl RawDetails {
         ensures { MatchResult result (λ k. AllYes (details_questions ring.ticks self.now) × (kind_number k ≡ self.now.kind)) (λ e. FirstNo (details_questions ring.ticks self.now) (number_of e)) }
     {
         let ticks = ring.ticks();
-        if self.from >= ticks || self.width >= ticks {
-            return Err(Refusal::FieldBounds);
-        }
-        if self.length < 1 || self.length > 40_000 {
-            return Err(Refusal::FieldBounds);
-        }
-        let kind = Kind::from_number(self.kind).ok_or(Refusal::FieldBounds)?;
-        match kind {
-            Kind::Zone if self.length > 1_023 => Err(Refusal::FieldBounds),
-            _ => Ok(kind),
+        let kind = Kind::try_from(self.kind)?;
+        let longest = match kind {
+            Kind::Zone => 1_023,
+            _ => 40_000,
+        };
+        if self.from < ticks && self.width < ticks && (1..=longest).contains(&self.length) {
+            Ok(kind)
+        } else {
+            Err(Refusal::FieldBounds)
         }
     }
 }
@@ -49,7 +48,7 @@ impl Candidate {
     pub fn kind(&self) -> Result<Kind, Refusal>
         ensures { MatchResult result (λ k. AllYes (job_questions self.now.ring.ticks self.now.number self.now.details) × (kind_number k ≡ self.now.details.kind)) (λ e. FirstNo (job_questions self.now.ring.ticks self.now.number self.now.details) (number_of e)) }
     {
-        if self.number < 1 || self.number > 1_048_575 {
+        if !(1..=1_048_575).contains(&self.number) {
             return Err(Refusal::NumberBounds);
         }
         self.details.kind_on(self.ring)

@@ -1,5 +1,5 @@
 -- The two laws of packing, at the layouts of a header and of a record.
-use Rattle.std.proofs.Common.{◌≡◌, ℕ, ◌+◌, ◌≤◌, List, [], ◌∷◌, ◌++◌, length, get_or, take, drop, sym, refl, ap, ◌∙◌, arith}
+use Rattle.std.proofs.Common.{◌≡◌, ℕ, ◌+◌, ◌≤◌, List, [], ◌∷◌, ◌++◌, length, get_or, take, drop, sym, refl, ap, ◌∙◌, subst, arith}
 use Rattle.std.proofs.lemmas.List.{length-take-le, length-drop, take-append-drop, drop-drop, drop-take, take-take}
 use Rattle.round_file.specs.Bits.{Octets, fields, total, Fit, octets, packed}
 use Rattle.round_file.specs.Format.{Head, head_at, head_bytes, head_widths, HeadsExact, Fixed, fixed_at, fixed_bytes, fixed_widths, RecordsExact, part, size_at}
@@ -40,9 +40,10 @@ records_exact f h =
 length_part : (bs : List ℕ) (place size : ℕ) → place + size ≤ length bs → length (part bs place size) ≡ size
 length_part bs place size h = length-take-le size (drop place bs) (omega (arith, length-drop place bs))
 
-pub head_written : (bs : List ℕ) → Octets (part bs 0 6) → 6 ≤ length bs → head_bytes (head_at bs) ≡ part bs 0 6
+pub head_written : (bs first : List ℕ) → first ≡ part bs 0 6 → Octets first → 6 ≤ length bs → head_bytes (head_at bs) ≡ part bs 0 6
 unfolding fields total
-head_written bs o h =
+head_written bs first is octets_first h =
+    let o = subst (λ (l : List ℕ). Octets l) is octets_first in
     let size = length_part bs 0 6 (omega arith) in
     let e = written_again (part bs 0 6) head_widths o (omega (arith, size)) in
     ap (λ n. octets n (packed head_widths (fields (part bs 0 6) 0 head_widths))) (sym size) ∙ e
@@ -62,9 +63,10 @@ cut bs place a b =
     ∙ ap (λ l. take a (take (a + b) (drop place bs)) ++ l) (sym (drop-take a b (drop place bs)))
     ∙ take-append-drop a (take (a + b) (drop place bs))
 
-pub entry_written : (bs : List ℕ) (place : ℕ) (e : Entry) → Octets (part bs place 10) → place + size_at bs place ≤ length bs → Said bs place e → entry_bytes e ≡ part bs place (size_at bs place)
+pub entry_written : (bs : List ℕ) (place : ℕ) (first : List ℕ) (e : Entry) → first ≡ part bs place 10 → Octets first → place + size_at bs place ≤ length bs → Said bs place e → entry_bytes e ≡ part bs place (size_at bs place)
 unfolding fixed_from
-entry_written bs place e o h s =
+entry_written bs place first e is octets_first h s =
+    let o = subst (λ (l : List ℕ). Octets l) is octets_first in
     let f = fixed_at bs place in
     let size : length e.note ≡ f.note = ap length s.note ∙ length_part bs (place + 10) f.note (omega arith) in
     let same : ◌≡◌ {A = List ℕ} (e.number ∷ kind_number e.kind ∷ e.from ∷ e.width ∷ e.length ∷ length e.note ∷ []) (f.number ∷ f.kind ∷ f.from ∷ f.width ∷ f.length ∷ f.note ∷ []) = cc in

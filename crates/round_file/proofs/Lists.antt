@@ -8,43 +8,45 @@ use Rattle.ring.specs.Refusals.{number_of}
 use Rattle.ring.specs.declared.refusals.Refusal.{Refusal}
 use Rattle.round_file.specs.Format.{part, record_questions, size_at}
 use Rattle.round_file.specs.Reading.{Entry, entry_bytes, told, Stands, Next}
-use Rattle.round_file.specs.Listed.{Reads}
+use Rattle.round_file.specs.Listed.{Reads, stop_number}
 use Rattle.round_file.specs.declared.cursors.Cursor.{Cursor}
 use Rattle.round_file.specs.declared.records.Record.{Record}
 use Rattle.round_file.proofs.Layouts.{cut}
 
-module _ (ticks count : ℕ) (bs : List ℕ) (c c' : Cursor) where
-  -- A record that `next` gives comes before what is read after it.
-  pub one_more : (r : Record) → Next ticks count bs c (Ok (Some r)) c' → (es : List Entry) (stop : Option ℕ) (end : ℕ) → Reads ticks bs (count - c'.read) c'.place es stop end → Reads ticks bs (count - c.read) c.place (told r ∷ es) stop end
-  one_more r n es stop end h =
+-- Whatever is read from the second place on is, behind these records, read from the first on.
+abbrev pub ReadsOn : ℕ → ℕ → List ℕ → Cursor → List Record → Cursor → Type 0
+ReadsOn ticks count bs c0 rs c =
+    (es : List Entry) (stop : Option ℕ) (end : ℕ) → Reads ticks bs (count - c.read) c.place es stop end
+    → Reads ticks bs (count - c0.read) c0.place (map told rs ++ es) stop end
+
+-- What a call of `next` adds to the records read before it.
+module _ (ticks count : ℕ) (bs : List ℕ) (c0 c c' : Cursor) (rs : List Record) (before : ReadsOn ticks count bs c0 rs c) where
+  pub grown : (r : Record) (more : List Record) → more ≡ rs ++ (r ∷ []) → Next ticks count bs c (Ok (Some r)) c' → ReadsOn ticks count bs c0 more c'
+  grown r more is n es stop end h =
       let left : count - c.read ≡ suc (count - c'.read) = omega arith in
+      let here : Reads ticks bs (count - c.read) c.place (told r ∷ es) stop end =
       subst (λ (k : ℕ). Reads ticks bs k c.place (told r ∷ es) stop end) (sym left)
-      (n.1, n.2, subst (λ (p : ℕ). Reads ticks bs (count - c'.read) p es stop end) n.3 h)
+      (n.1, n.2, subst (λ (p : ℕ). Reads ticks bs (count - c'.read) p es stop end) n.3 h) in
+      let same : map told rs ++ (told r ∷ es) ≡ map told more ++ es =
+      sym (append_assoc (map told rs) (told r ∷ []) es) ∙ ap (λ l. l ++ es) (sym (map_push told rs r) ∙ ap (λ l. map told l) (sym is)) in
+      subst (λ (l : List Entry). Reads ticks bs (count - c0.read) c0.place l stop end) same (before (told r ∷ es) stop end here)
 
-  pub no_more : Next ticks count bs c (Ok None) c' → Reads ticks bs (count - c.read) c.place [] None c'.place
-  no_more n =
+  closed : (stop : Option ℕ) → Reads ticks bs (count - c.read) c.place [] stop c'.place → Reads ticks bs (count - c0.read) c0.place (map told rs) stop c'.place
+  closed stop h =
+      subst (λ (l : List Entry). Reads ticks bs (count - c0.read) c0.place l stop c'.place) (append-nil (map told rs))
+      (before [] stop c'.place h)
+
+  pub ended : (s : Option Refusal) → s ≡ None → Next ticks count bs c (Ok None) c' → Reads ticks bs (count - c0.read) c0.place (map told rs) (stop_number s) c'.place
+  ended s is n =
       let left : count - c.read ≡ 0 = omega arith in
-      subst (λ (k : ℕ). Reads ticks bs k c.place [] None c'.place) (sym left) (ap (λ x. x.place) n.1)
+      subst (λ (k : Option Refusal). Reads ticks bs (count - c0.read) c0.place (map told rs) (stop_number k) c'.place) (sym is)
+      (closed None (subst (λ (k : ℕ). Reads ticks bs k c.place [] None c'.place) (sym left) (ap (λ x. x.place) n.1)))
 
-  pub stopped : (r : Refusal) → Next ticks count bs c (Err r) c' → Reads ticks bs (count - c.read) c.place [] (Some (number_of r)) c'.place
-  stopped r n =
+  pub stopped : (s : Option Refusal) (r : Refusal) → s ≡ Some r → Next ticks count bs c (Err r) c' → Reads ticks bs (count - c0.read) c0.place (map told rs) (stop_number s) c'.place
+  stopped s r is n =
       let left : count - c.read ≡ suc (count - (c.read + 1)) = omega arith in
-      subst (λ (k : ℕ). Reads ticks bs k c.place [] (Some (number_of r)) c'.place) (sym left)
-      (n.1, ap (λ x. x.place) n.2)
-
-  -- What was read before, one record longer.
-  pub grown : (c0 : Cursor) (rs : List Record) (r : Record) → ((es : List Entry) (stop : Option ℕ) (end : ℕ) → Reads ticks bs (count - c.read) c.place es stop end → Reads ticks bs (count - c0.read) c0.place (map told rs ++ es) stop end) → Next ticks count bs c (Ok (Some r)) c' → (es : List Entry) (stop : Option ℕ) (end : ℕ) → Reads ticks bs (count - c'.read) c'.place es stop end → Reads ticks bs (count - c0.read) c0.place (map told (rs ++ (r ∷ [])) ++ es) stop end
-  grown c0 rs r before n es stop end h =
-      let same : map told rs ++ (told r ∷ es) ≡ map told (rs ++ (r ∷ [])) ++ es =
-      sym (append_assoc (map told rs) (told r ∷ []) es) ∙ ap (λ l. l ++ es) (sym (map_push told rs r)) in
-      subst (λ (l : List Entry). Reads ticks bs (count - c0.read) c0.place l stop end) same
-      (before (told r ∷ es) stop end (one_more r n es stop end h))
-
-  -- What was read before, and nothing more.
-  pub closed : (c0 : Cursor) (rs : List Record) (stop : Option ℕ) (end : ℕ) → ((es : List Entry) (stop : Option ℕ) (end : ℕ) → Reads ticks bs (count - c.read) c.place es stop end → Reads ticks bs (count - c0.read) c0.place (map told rs ++ es) stop end) → Reads ticks bs (count - c.read) c.place [] stop end → Reads ticks bs (count - c0.read) c0.place (map told rs) stop end
-  closed c0 rs stop end before h =
-      subst (λ (l : List Entry). Reads ticks bs (count - c0.read) c0.place l stop end) (append-nil (map told rs))
-      (before [] stop end h)
+      subst (λ (k : Option Refusal). Reads ticks bs (count - c0.read) c0.place (map told rs) (stop_number k) c'.place) (sym is)
+      (closed (Some (number_of r)) (subst (λ (k : ℕ). Reads ticks bs k c.place [] (Some (number_of r)) c'.place) (sym left) (n.1, ap (λ x. x.place) n.2)))
 
 -- What reading a file gives, whatever the bytes.
 module _ (ticks : ℕ) (bs : List ℕ) where

@@ -1,6 +1,8 @@
 -- Packing and reading undo each other, in any layout that fills whole bytes.
 use Rattle.std.proofs.Common.{◌≡◌, ℕ, zero, suc, ◌+◌, ◌-◌, ◌*◌, ◌/◌, ◌%◌, ◌^◌, ◌<◌, ◌≤◌, List, [], ◌∷◌, ◌++◌, length, get_or, take, drop, sym, refl, ap, ◌∙◌, append_assoc, add-zero, add_assoc, add-suc, pow-suc, zero-add, arith, length-append, drop-cons}
 use Rattle.std.proofs.lemmas.List.{append-nil, take_at, drop_at, take_all, length-take-le, take-append-drop}
+use Rattle.std.proofs.lemmas.List.Elements.{All-append, All-cons, All-drop, All-head, All-nil, All-tail, All-take}
+use Rattle.std.specs.List.{All}
 use Rattle.round_file.specs.Bits.{bit, field, fields, Octets, digits, packed, value, octets, total, Fit, ReadAgain, WrittenAgain}
 
 -- The bits from `at` on, so many.
@@ -134,37 +136,20 @@ written_again bs ws o t =
     ∙ take_all (length bs) bs (omega arith)
 
 -- Writing, then reading.
-Bin : List ℕ → Type 0
-Bin [] = Unit {0}
-Bin (b ∷ bs) = (b < 2) × Bin bs
-
-bin_append : (xs ys : List ℕ) → Bin xs → Bin ys → Bin (xs ++ ys)
-unfolding Bin
-bin_append [] ys a b = b
-bin_append (x ∷ xs) ys a b = (a.0, bin_append xs ys a.1 b)
-
-bin_take : (n : ℕ) (xs : List ℕ) → Bin xs → Bin (take n xs)
-unfolding Bin
-bin_take zero xs a = tt
-bin_take (suc n) [] a = tt
-bin_take (suc n) (x ∷ xs) a = (a.0, bin_take n xs a.1)
-
-bin_drop : (n : ℕ) (xs : List ℕ) → Bin xs → Bin (drop n xs)
-unfolding Bin
-bin_drop zero xs a = a
-bin_drop (suc n) [] a = tt
-bin_drop (suc n) (x ∷ xs) a = bin_drop n xs a.1
+abbrev Bin : List ℕ → Type 0
+Bin bs = All (λ b. b < 2) bs
 
 bin_digits : (w v : ℕ) → Bin (digits w v)
-unfolding Bin digits
-bin_digits zero v = tt
-bin_digits (suc w) v = bin_append (digits w (v / 2)) (v % 2 ∷ []) (bin_digits w (v / 2)) (omega arith, tt)
+unfolding digits
+bin_digits zero v = All-nil (λ b. b < 2)
+bin_digits (suc w) v =
+    All-append (λ b. b < 2) (digits w (v / 2)) (v % 2 ∷ []) (bin_digits w (v / 2)) (All-cons (λ b. b < 2) (v % 2) [] (omega arith) (All-nil (λ b. b < 2)))
 
 bin_packed : (ws vs : List ℕ) → Bin (packed ws vs)
-unfolding Bin packed
-bin_packed [] vs = tt
-bin_packed (w ∷ ws) [] = tt
-bin_packed (w ∷ ws) (v ∷ vs) = bin_append (digits w v) (packed ws vs) (bin_digits w v) (bin_packed ws vs)
+unfolding packed
+bin_packed [] vs = All-nil (λ b. b < 2)
+bin_packed (w ∷ ws) [] = All-nil (λ b. b < 2)
+bin_packed (w ∷ ws) (v ∷ vs) = All-append (λ b. b < 2) (digits w v) (packed ws vs) (bin_digits w v) (bin_packed ws vs)
 
 length_packed : (ws vs : List ℕ) → Fit ws vs → length (packed ws vs) ≡ total ws
 unfolding packed total Fit
@@ -175,15 +160,15 @@ length_packed (w ∷ ws) (v ∷ vs) f =
     length-append (digits w v) (packed ws vs) ∙ omega (arith, length_digits w v, length_packed ws vs f.1)
 
 digits_value : (k n : ℕ) (bs : List ℕ) → Bin bs → digits (k + length bs) (value n bs) ≡ digits k n ++ bs
-unfolding Bin digits value
+unfolding digits value
 digits_value k n [] h = ap (λ m. digits m n) (add-zero k) ∙ sym (append-nil (digits k n))
 digits_value k n (b ∷ bs) h =
-    let low : b < 2 = h.0 in
+    let low : b < 2 = All-head (λ x. x < 2) b bs h in
     let half : (n * 2 + b) / 2 ≡ n = omega arith in
     let last : (n * 2 + b) % 2 ≡ b = omega arith in
     let size : k + suc (length bs) ≡ suc k + length bs = omega arith in
     ap (λ m. digits m (value (n * 2 + b) bs)) size
-    ∙ digits_value (suc k) (n * 2 + b) bs h.1
+    ∙ digits_value (suc k) (n * 2 + b) bs (All-tail (λ x. x < 2) b bs h)
     ∙ ap (λ m. (digits k m ++ ((n * 2 + b) % 2 ∷ [])) ++ bs) half
     ∙ ap (λ m. (digits k n ++ (m ∷ [])) ++ bs) last
     ∙ append_assoc (digits k n) (b ∷ []) bs
@@ -198,12 +183,12 @@ range_octets (suc n) bits b h =
     let size : 8 * suc n ≡ 8 + 8 * n = omega arith in
     let eight : length (take 8 bits) ≡ 8 = length-take-le 8 bits (omega arith) in
     let first : digits 8 x ≡ take 8 bits =
-    ap (λ m. digits m x) (sym eight ∙ sym (zero-add (length (take 8 bits)))) ∙ digits_value 0 0 (take 8 bits) (bin_take 8 bits b) in
+    ap (λ m. digits m x) (sym eight ∙ sym (zero-add (length (take 8 bits)))) ∙ digits_value 0 0 (take 8 bits) (All-take (λ b. b < 2) 8 bits b) in
     let others : length (drop 8 bits) ≡ 8 * n = omega (arith, ap length (take-append-drop 8 bits), length-append (take 8 bits) (drop 8 bits)) in
     ap (λ m. range (x ∷ rest) 0 m) size
     ∙ range_add (x ∷ rest) 0 8 (8 * n)
     ∙ ap (λ l. l ++ range (x ∷ rest) 8 (8 * n)) (range_byte (x ∷ rest) 0 ∙ first)
-    ∙ ap (λ l. take 8 bits ++ l) (range_further x rest 0 (8 * n) ∙ range_octets n (drop 8 bits) (bin_drop 8 bits b) others)
+    ∙ ap (λ l. take 8 bits ++ l) (range_further x rest 0 (8 * n) ∙ range_octets n (drop 8 bits) (All-drop (λ b. b < 2) 8 bits b) others)
     ∙ take-append-drop 8 bits
 
 -- Where the bits from `at` on are those of the numbers, the fields are the numbers.

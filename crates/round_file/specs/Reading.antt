@@ -6,10 +6,11 @@ use Rattle.ring.specs.declared.refusals.Refusal.{Refusal}
 use Rattle.jobs.specs.Kinds.{kind_number}
 use Rattle.jobs.specs.declared.kinds.Kind.{Kind}
 use Rattle.jobs.specs.declared.kinds.Kind.TheVariants as kinds
-use Rattle.round_file.specs.Format.{fixed_at, fixed_bytes, part, size_at, record_questions}
+use Rattle.round_file.specs.Format.{fixed_at, fixed_bytes, head_questions, Opened, part, size_at, record_questions}
 use Rattle.round_file.specs.declared.records.Record.{Record}
 use Rattle.round_file.specs.declared.records.Record.TheVariants.{PickUp, Drop, Zone}
-use Rattle.round_file.specs.declared.readers.Numbers.{Numbers}
+use Rattle.round_file.specs.declared.numbers.Numbers.{Numbers}
+use Rattle.round_file.specs.declared.readers.Reader.{Reader}
 use Rattle.round_file.specs.declared.cursors.Cursor.{Cursor}
 
 -- What a record says, with its note's bytes in the place of the reference to them.
@@ -92,6 +93,14 @@ pub record Said (bs : List ℕ) (place : ℕ) (e : Entry) : Type 0 where
 pub record Stands (bs : List ℕ) (place : ℕ) (e : Entry) : Type 0 where
   pub said : Said bs place e
   pub written : entry_bytes e ≡ part bs place (size_at bs place)
+
+-- A reader of a file whose header is accepted, at its first record.
+pub record Begun (bs : List ℕ) (r : Reader) : Type 0 where
+  pub header : AllYes (head_questions bs)
+  pub opened : Opened bs r.header.ring.ticks r.header.pace.p r.header.pace.q r.header.count
+  pub bytes : r.bytes.now ≡ bs
+  pub place : r.cursor.place ≡ 6
+  pub read : r.cursor.read ≡ 0
 
 -- One call of `next` on a file of so many records. Once all are read there are no more; a refusal
 -- leaves the cursor as it was; an accepted record moves it to the byte after its note.

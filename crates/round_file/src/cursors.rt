@@ -14,6 +14,8 @@ pub struct Guard<'a> {
 }
 
 impl Drop for Guard<'_> {
+    // A guard is taken apart field by field: `..` lets `drop` run, and after `mem::forget` the check
+    // knows nothing of the cursor.
     fn drop(self)
         ensures place { self.exit.0.now.place ≡ self.entry.start }
         ensures read { self.exit.0.now.read ≡ self.entry.cursor.now.read }

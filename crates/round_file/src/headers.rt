@@ -15,15 +15,13 @@ pub struct Header {
 }
 
 impl Header {
+    // How many bytes it takes; the first record follows them.
     pub const SIZE: usize = 6;
 
     pub fn open(bytes: &[u8]) -> Result<Header, Refusal>
         ensures { MatchResult result (λ h. AllYes (head_questions bytes.now) × Opened bytes.now h.ring.ticks h.pace.p h.pace.q h.count) (λ e. FirstNo (head_questions bytes.now) (number_of e)) }
     {
-        if bytes.len() < 6 {
-            return Err(Refusal::BytesMissing);
-        }
-        let fixed = &bytes[0..6];
+        let fixed = bytes.get(..Header::SIZE).ok_or(Refusal::BytesMissing)?;
         if field_at(fixed, 0, 4) != 1 {
             return Err(Refusal::UnknownVersion);
         }

@@ -11,6 +11,7 @@ mod bits;
 mod cursors;
 mod headers;
 mod listings;
+mod numbers;
 mod readers;
 mod records;
 

@@ -1,14 +1,14 @@
-ghost use Rattle.std.specs.Prelude.{◌≡◌, ◌<◌, ◌≤◌, IfOk, MatchResult};
+ghost use Rattle.std.specs.Prelude.{◌≡◌, ◌-◌, ◌<◌, length, ◌≤◌, MatchResult};
+ghost use Rattle.ring.specs.declared.refusals.Refusal.TheVariants.{NoMemory};
 ghost use Rattle.round_file.specs.Listed.{Listed, Unlisted, Collects, Faulted, stop_number};
 
-use crate::headers::Header;
 use crate::readers::Reader;
 use crate::records::Record;
 use ring::{Fault, Refusal, at_record};
-use std::alloc::{AllocError, Global};
+use std::alloc::Global;
 
 // The records of a file up to its end, or up to the first that is refused.
-#[derive(Drop)]
+#[derive(PartialEq, Eq, Debug, Drop)]
 pub struct Listing<'a> {
     pub records: Vec<Record<'a>>,
     // how many bytes are unread
@@ -24,10 +24,11 @@ pub struct Collected<'a> {
     stop: Option<Refusal>,
 }
 
-fn collect<'a>(heap: Global, reader: &mut Reader<'a>) -> Result<Collected<'a>, AllocError>
-    ensures cases { IfOk result (λ k. Collects reader.old.header.ring.ticks reader.old.header.count reader.old.bytes.now reader.old.cursor k reader.new.cursor) }
+fn collect<'a>(heap: Global, reader: &mut Reader<'a>) -> Result<Collected<'a>, Refusal>
+    ensures cases { MatchResult result (λ k. Collects reader.old.header.ring.ticks reader.old.header.count reader.old.bytes.now reader.old.cursor k reader.new.cursor) (λ e. e ≡ NoMemory) }
     ensures kept { (reader.new.header ≡ reader.old.header) × (reader.new.bytes.now ≡ reader.old.bytes.now) }
 {
+    // No iterator: a refusal leaves the reader where it stands, so as one it would never end.
     let mut records = Vec::new(heap);
     let stop = loop {
         match reader.next() {
@@ -39,18 +40,18 @@ fn collect<'a>(heap: Global, reader: &mut Reader<'a>) -> Result<Collected<'a>, A
     Ok(Collected { records, stop })
 }
 
-// The fault that is told after `read` of `count` records, with so many bytes unread.
-fn fault_of(stop: Option<Refusal>, count: u8, read: u8, left: usize) -> Option<Fault>
-    requires { read ≤ 64 }
-    ensures { Faulted count read (stop_number stop) left result }
+// The fault that is told where a reader stopped or came to its end.
+fn fault_of(stop: Option<Refusal>, reader: &Reader) -> Option<Fault>
+    requires { reader.now.cursor.read ≤ 64 }
+    ensures { Faulted reader.now.header.count reader.now.cursor.read (stop_number stop) (length reader.now.bytes.now - reader.now.cursor.place) result }
 {
     match stop {
         Some(refusal) => Some(Fault {
-            record: read + 1,
+            record: reader.cursor().read + 1,
             refusal,
         }),
-        None if left > 0 => Some(Fault {
-            record: count,
+        None if reader.left() > 0 => Some(Fault {
+            record: reader.header().count,
             refusal: Refusal::BytesLeft,
         }),
         None => None,
@@ -62,19 +63,12 @@ impl<'a> Listing<'a> {
     pub fn read(heap: Global, bytes: &'a [u8]) -> Result<Listing<'a>, Fault>
         ensures { MatchResult result (λ l. Listed bytes.now l) (λ f. Unlisted bytes.now f) }
     {
-        let header = at_record(Header::open(bytes), 0)?;
-        let mut reader = Reader::new(bytes, header);
-        let Ok(Collected { records, stop }) = collect(heap, &mut reader) else {
-            return Err(Fault {
-                record: 0,
-                refusal: Refusal::NoMemory,
-            });
-        };
-        let left = reader.left();
-        let fault = fault_of(stop, header.count, reader.cursor().read, left);
+        let mut reader = at_record(Reader::open(bytes), 0)?;
+        let Collected { records, stop } = at_record(collect(heap, &mut reader), 0)?;
+        let fault = fault_of(stop, &reader);
         Ok(Listing {
             records,
-            left,
+            left: reader.left(),
             fault,
         })
     }

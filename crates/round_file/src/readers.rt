@@ -3,105 +3,74 @@ ghost use Rattle.ring.specs.Questions.{AllYes, FirstNo};
 ghost use Rattle.ring.specs.Refusals.{number_of};
 ghost use Rattle.ring.specs.declared.refusals.Refusal.TheVariants.{BytesMissing};
 ghost use Rattle.jobs.specs.Asked.{job_questions};
-ghost use Rattle.jobs.specs.Kinds.{kind_number};
-ghost use Rattle.round_file.specs.Bits.{Octets};
-ghost use Rattle.round_file.specs.Format.{fixed_of, fixed_at, details_of, part, record_questions, size_at};
-ghost use Rattle.round_file.specs.Reading.{told, Stands, Next, Made};
+ghost use Rattle.round_file.specs.Format.{head_questions, part, record_questions, size_at};
+ghost use Rattle.round_file.specs.Reading.{told, Stands, Begun, Next, Made};
 
-use crate::bits::field_at;
 use crate::cursors::{Cursor, Guard};
 use crate::headers::Header;
+use crate::numbers::Numbers;
 use crate::records::{Note, Record};
 use jobs::{Candidate, Kind, RawDetails};
 use ring::{Refusal, Ring};
 
-// The numbers of a record's fixed part, as its bits say.
-#[derive(Clone, Copy)]
-struct Numbers {
-    number: u32,
-    details: RawDetails,
-    note: u8,
-}
-
-fn numbers_of(fixed: &[u8]) -> Numbers
-    requires { length fixed.now ≡ 10 }
-    ensures value { (result.number ≡ (fixed_of fixed.now).number) × (result.details ≡ details_of (fixed_of fixed.now)) × (result.note ≡ (fixed_of fixed.now).note) }
-    ensures small { result.details.length < 65536 }
-    ensures octets { Octets fixed.now }
-{
-    let details = RawDetails {
-        kind: field_at(fixed, 20, 2),
-        from: field_at(fixed, 22, 17),
-        width: field_at(fixed, 39, 17),
-        length: field_at(fixed, 56, 16),
-    };
-    Numbers {
-        number: field_at(fixed, 0, 20),
-        details,
-        note: field_at(fixed, 72, 8) as u8,
+impl Numbers {
+    // Puts the questions on a job's numbers, and makes a record of its kind where all say yes.
+    fn judge<'a>(self, ring: Ring, note: Note<'a>) -> Result<Record<'a>, Refusal>
+        ensures { MatchResult result (λ made. AllYes (job_questions ring.ticks self.number self.details) × Made self note.entry.place note.entry.bytes.now (told made)) (λ e. FirstNo (job_questions ring.ticks self.number self.details) (number_of e)) }
+    {
+        let Numbers {
+            number,
+            details,
+            ..
+        } = self;
+        let kind = Candidate {
+            ring,
+            number,
+            details,
+        }
+        .kind()?;
+        let RawDetails {
+            from,
+            width,
+            length,
+            ..
+        } = details;
+        let length = length as u16;
+        Ok(match kind {
+            Kind::PickUp => Record::PickUp {
+                number,
+                from,
+                width,
+                length,
+                note,
+            },
+            Kind::Drop => Record::Drop {
+                number,
+                from,
+                width,
+                length,
+                note,
+            },
+            Kind::Zone => Record::Zone {
+                number,
+                from,
+                width,
+                value: length,
+                note,
+            },
+        })
     }
 }
 
 // So many bytes at the cursor, which moves past them.
 fn take_part<'a>(bytes: &'a [u8], cursor: &mut Cursor, size: usize) -> Result<&'a [u8], Refusal>
-    requires { size ≤ 255 }
     ensures cases { MatchResult result (λ b. (cursor.old.place + size ≤ length bytes.now) × (b.now ≡ part bytes.now cursor.old.place size) × (length b.now ≡ size) × (cursor.new.place ≡ cursor.old.place + size)) (λ e. (length bytes.now < cursor.old.place + size) × (e ≡ BytesMissing)) }
     ensures read { cursor.new.read ≡ cursor.old.read }
 {
-    let place = cursor.place;
-    if bytes.len() < place || bytes.len() - place < size {
-        return Err(Refusal::BytesMissing);
-    }
-    cursor.place = place + size;
-    Ok(&bytes[place..place + size])
-}
-
-// Puts the questions on a job's numbers, and makes a record of its kind where all say yes.
-fn judge<'a>(ring: Ring, numbers: Numbers, note: Note<'a>) -> Result<Record<'a>, Refusal>
-    requires { numbers.details.length < 65536 }
-    ensures { MatchResult result (λ made. AllYes (job_questions ring.ticks numbers.number numbers.details) × Made numbers note.entry.place note.entry.bytes.now (told made)) (λ e. FirstNo (job_questions ring.ticks numbers.number numbers.details) (number_of e)) }
-{
-    let Numbers {
-        number,
-        details,
-        note: _,
-    } = numbers;
-    let kind = Candidate {
-        ring,
-        number,
-        details,
-    }
-    .kind()?;
-    let RawDetails {
-        kind: _,
-        from,
-        width,
-        length,
-    } = details;
-    let length = length as u16;
-    Ok(match kind {
-        Kind::PickUp => Record::PickUp {
-            number,
-            from,
-            width,
-            length,
-            note,
-        },
-        Kind::Drop => Record::Drop {
-            number,
-            from,
-            width,
-            length,
-            note,
-        },
-        Kind::Zone => Record::Zone {
-            number,
-            from,
-            width,
-            value: length,
-            note,
-        },
-    })
+    let rest = bytes.get(cursor.place..).ok_or(Refusal::BytesMissing)?;
+    let part = rest.get(..size).ok_or(Refusal::BytesMissing)?;
+    cursor.place += size;
+    Ok(part)
 }
 
 // One record, under a guard that puts the cursor back at every refusal.
@@ -110,16 +79,16 @@ fn read_record<'a>(bytes: &'a [u8], ring: Ring, cursor: &mut Cursor) -> Result<R
     ensures { MatchResult result (λ made. AllYes (record_questions ring.ticks bytes.now cursor.old.place) × Stands bytes.now cursor.old.place (told made) × (cursor.new.place ≡ cursor.old.place + size_at bytes.now cursor.old.place) × (cursor.new.read ≡ cursor.old.read + 1)) (λ e. FirstNo (record_questions ring.ticks bytes.now cursor.old.place) (number_of e) × (cursor.new ≡ cursor.old)) }
 {
     let guard = Guard::new(cursor);
-    let numbers = numbers_of(take_part(bytes, guard.cursor, 10)?);
+    let numbers = Numbers::of(take_part(bytes, guard.cursor, Numbers::SIZE)?);
     let place = guard.cursor.place;
-    let note = take_part(bytes, guard.cursor, numbers.note as usize)?;
-    let record = judge(ring, numbers, Note { place, bytes: note })?;
+    let note = take_part(bytes, guard.cursor, usize::from(numbers.note))?;
+    let record = numbers.judge(ring, Note { place, bytes: note })?;
     guard.disarm();
     Ok(record)
 }
 
 // Reads the records of a file one by one.
-#[derive(Drop)]
+#[derive(PartialEq, Eq, Debug, Drop)]
 pub struct Reader<'a> {
     bytes: &'a [u8],
     header: Header,
@@ -136,8 +105,19 @@ impl<'a> Reader<'a> {
         Reader {
             bytes,
             header,
-            cursor: Cursor { place: 6, read: 0 },
+            cursor: Cursor {
+                place: Header::SIZE,
+                read: 0,
+            },
         }
+    }
+
+    // Opens a file, and stands at its first record.
+    pub fn open(bytes: &'a [u8]) -> Result<Reader<'a>, Refusal>
+        ensures { MatchResult result (λ r. Begun bytes.now r) (λ e. FirstNo (head_questions bytes.now) (number_of e)) }
+    {
+        let header = Header::open(bytes)?;
+        Ok(Reader::new(bytes, header))
     }
 
     // The next record, or none once the header's count is reached.
@@ -148,8 +128,7 @@ impl<'a> Reader<'a> {
         if self.cursor.read >= self.header.count {
             return Ok(None);
         }
-        let record = read_record(self.bytes, self.header.ring, &mut self.cursor)?;
-        Ok(Some(record))
+        read_record(self.bytes, self.header.ring, &mut self.cursor).map(Some)
     }
 
     pub fn header(&self) -> Header

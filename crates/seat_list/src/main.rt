@@ -3,51 +3,42 @@
 // from standard input.
 #![tactic(auto)]
 
-use anyhow::anyhow;
-use jobs::Kind;
+use anyhow::{anyhow, ensure};
+use jobs::{Arms, RawDetails};
 use leeway::{NoLeeway, leeway};
 use placement::{Seating, Stay, Window};
 use ring::{Fault, Refusal, Ring};
 use round_file::{Header, Listing, Record};
 use seaters::{ListOrder, Outcome, Seater};
+use std::io;
 use std::io::Read;
 use trials::{Attempt, trial};
 
 // A fault is an answer; want of memory is none.
 fn print_fault(rt: &HostRuntime, fault: Fault) -> anyhow::Result<()> {
-    if let Refusal::NoMemory = fault.refusal {
-        return Err(anyhow!("no memory"));
-    }
+    ensure!(fault.refusal != Refusal::NoMemory, "no memory");
     println!(rt; "{fault}")?;
     Ok(())
 }
 
 fn stay_of(record: &Record) -> Option<Stay> {
-    let details = record.details();
-    let arms = record.kind().arms(u16::try_from(details.length).ok()?)?;
+    let RawDetails { from, width, .. } = record.details();
+    let Arms { lead, trail } = record.arms()?;
     Some(Stay {
-        window: Window {
-            from: details.from,
-            width: details.width,
-        },
-        lead: arms.lead,
-        trail: arms.trail,
+        window: Window { from, width },
+        lead,
+        trail,
     })
 }
 
-fn print_job(rt: &HostRuntime, record: &Record, stay: &Stay) -> anyhow::Result<()> {
-    let number = record.number();
-    let word = match record.kind() {
-        Kind::PickUp => "pick-up",
-        Kind::Drop => "drop",
-        Kind::Zone => "zone",
-    };
-    let from = stay.window.from;
-    let width = stay.window.width;
-    let lead = stay.lead;
-    let trail = stay.trail;
-    println!(rt; "{word} {number}: window {from} +{width}, lead {lead}, trail {trail}")?;
-    Ok(())
+fn print_job(rt: &HostRuntime, record: &Record, stay: &Stay) -> io::Result<()> {
+    let (kind, number) = (record.kind(), record.number());
+    let Stay {
+        window: Window { from, width },
+        lead,
+        trail,
+    } = *stay;
+    println!(rt; "{kind} {number}: window {from} +{width}, lead {lead}, trail {trail}")
 }
 
 // The jobs of an order at their times.

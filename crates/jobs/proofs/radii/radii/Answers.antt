@@ -11,11 +11,9 @@ worked =
       most = record { low = lit≤ tt; high = lit< tt };
     }
 
-pub returns : goal.returns
-returns c =
-    record {
-      each =
-          λ value h. carried c.table.result.now c.table.ensures.rule value (omega (arith, c.table.ensures.size));
-      size = c.table.ensures.size;
-      laws = (one_radius, worked);
-    }
+pub returns-clause-each : goal.returns-clause-each
+returns-clause-each c =
+    λ value h. carried c.table.result.now c.table.ensures.rule value (omega (arith, c.table.ensures.size))
+
+pub returns-clause-laws : goal.returns-clause-laws
+returns-clause-laws c = (one_radius, worked)

@@ -1,65 +1,34 @@
-use Rattle.std.proofs.Common.{◌≡◌, ℕ, ◌-◌, List, [], ◌∷◌, ◌++◌, map, Some, None, Ok, Err, vec_items, Option, Result, sym, subst, rules}
-use Rattle.ring.specs.Refusals.{number_of}
-use Rattle.ring.specs.declared.refusals.Refusal.{Refusal}
-use Rattle.round_file.specs.Reading.{told, Next}
-use Rattle.round_file.specs.Listed.{Reads, stop_number}
-use Rattle.round_file.specs.declared.cursors.Cursor.{Cursor}
-use Rattle.round_file.specs.declared.headers.Header.{Header}
-use Rattle.round_file.specs.declared.records.Record.{Record}
-use Rattle.round_file.proofs.Lists.{grown, closed, no_more, stopped}
+use Rattle.std.proofs.Common.{vec_items, rules}
+use Rattle.round_file.proofs.Lists.{grown, ended, stopped}
 use Rattle.round_file.proofs.listings.collect.Goals as goal
 use Rattle.round_file.proofs.listings.collect.Goals.{in-Ok-None, in-Err}
-
--- What `next` answered, said of the header and bytes that the loop began with.
-moved : (h h' : Header) (bs bs' : List ℕ) (c c' : Cursor) (r : Result (Option Record) Refusal) → h ≡ h' → bs ≡ bs' → Next h.ring.ticks h.count bs c r c' → Next h'.ring.ticks h'.count bs' c r c'
-moved h h' bs bs' c c' r e f n =
-    subst (λ (x : List ℕ). Next h'.ring.ticks h'.count x c r c') f
-    (subst (λ (x : Header). Next x.ring.ticks x.count bs c r c') e n)
 
 pub loop-record-preserved : goal.loop-record-preserved
 loop-record-preserved c =
     let h = c.args.reader.now.header in
-    let bs : List ℕ = c.args.reader.now.bytes.now in
-    let l = c.loop-record in
-    let here : Next l.reader.header.ring.ticks l.reader.header.count l.reader.bytes.now l.reader.cursor (Ok (Some c.in-Ok-Some.record)) c.next.new.self.cursor = search rules in
-    let n = moved l.reader.header h l.reader.bytes.now bs l.reader.cursor c.next.new.self.cursor (Ok (Some c.in-Ok-Some.record)) l.invariant.2 l.invariant.3 here in
-    let items : vec_items c.push.new.self ≡ vec_items l.records ++ (c.in-Ok-Some.record ∷ []) = search rules in (
-      λ es stop end r. subst (λ (rs : List Record). Reads h.ring.ticks bs (h.count - c.args.reader.now.cursor.read) c.args.reader.now.cursor.place (map told rs ++ es) stop end) (sym items)
-          (grown h.ring.ticks h.count bs l.reader.cursor c.next.new.self.cursor c.args.reader.now.cursor (vec_items l.records) c.in-Ok-Some.record l.invariant.0 n es stop end r),
+    let l = c.loop-record in (
+      grown h.ring.ticks h.count c.args.reader.now.bytes.now c.args.reader.now.cursor l.reader.cursor c.next.new.self.cursor (vec_items l.records) l.invariant.0
+          c.in-Ok-Some.record (vec_items c.push.new.self) (search rules) (search rules),
       search rules,
       search rules,
       search rules,
     )
 
-pub returns : goal.returns
-returns c =
+pub returns-clause-cases : goal.returns-clause-cases
+returns-clause-cases c =
     let h = c.args.reader.now.header in
-    let bs : List ℕ = c.args.reader.now.bytes.now in
-    let l = c.loop-record in
+    let bs = c.args.reader.now.bytes.now in
     let start = c.args.reader.now.cursor in
-    let c' = c.next.new.self.cursor in
-    let Gives : Option Refusal → Type 0 = λ s. Reads h.ring.ticks bs (h.count - start.read) start.place (map told (vec_items l.records)) (stop_number s) c'.place in
+    let l = c.loop-record in
     elim c.match-next.branch [
       | in-Ok-None w ↦
-          let here : Next l.reader.header.ring.ticks l.reader.header.count l.reader.bytes.now l.reader.cursor (Ok None) c' = search rules in
-          let n = moved l.reader.header h l.reader.bytes.now bs l.reader.cursor c' (Ok None) l.invariant.2 l.invariant.3 here in
           record {
-            cases =
-                record {
-                  reads = subst Gives (sym w.stop-is) (closed h.ring.ticks h.count bs l.reader.cursor c' start (vec_items l.records) None c'.place l.invariant.0 (no_more h.ring.ticks h.count bs l.reader.cursor c' n));
-                  read = search rules;
-                };
-            kept = search rules;
+            reads = ended h.ring.ticks h.count bs start l.reader.cursor c.next.new.self.cursor (vec_items l.records) l.invariant.0 c.match-next.stop w.stop-is (search rules);
+            read = search rules;
           }
       | in-Err w ↦
-          let r = w.in-Err.refusal in
-          let n = moved l.reader.header h l.reader.bytes.now bs l.reader.cursor c' (Err r) l.invariant.2 l.invariant.3 w.in-Err.ensures.answer in
           record {
-            cases =
-                record {
-                  reads = subst Gives (sym w.stop-is) (closed h.ring.ticks h.count bs l.reader.cursor c' start (vec_items l.records) (Some (number_of r)) c'.place l.invariant.0 (stopped h.ring.ticks h.count bs l.reader.cursor c' r n));
-                  read = search rules;
-                };
-            kept = search rules;
+            reads = stopped h.ring.ticks h.count bs start l.reader.cursor c.next.new.self.cursor (vec_items l.records) l.invariant.0 c.match-next.stop w.in-Err.refusal w.stop-is (search rules);
+            read = search rules;
           }
     ]

@@ -10,6 +10,6 @@ returns c = (
     p_is = search rules;
     q_is = search rules;
     count_is = search rules;
-    written = head_written c.args.bytes.now c.field_at.ensures.octets c.if-bytes-lt6.false;
+    written = head_written c.args.bytes.now c.in_ok-fixed.fixed.now (search rules) c.field_at.ensures.octets (search rules);
   },
 )

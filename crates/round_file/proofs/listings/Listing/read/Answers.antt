@@ -1,77 +1,64 @@
 use Rattle.std.proofs.Common.{◌≡◌, ℕ, ◌-◌, ◌≤◌, List, ◌++◌, map, length, vec_items, Option, sym, ap, ◌∙◌, subst, arith, rules}
 use Rattle.std.proofs.lemmas.List.{length-map}
 use Rattle.std.specs.List.{flat_map}
-use Rattle.ring.specs.Questions.{AllYes}
-use Rattle.round_file.specs.Format.{head_at, head_questions, Opened}
-use Rattle.round_file.specs.Reading.{Entry, entry_bytes, told}
+use Rattle.round_file.specs.Format.{head_at}
+use Rattle.round_file.specs.Reading.{Begun, Entry, entry_bytes, told}
 use Rattle.round_file.specs.Listed.{Reads, FileReads, Collects, Faulted, Listed, stop_number}
-use Rattle.round_file.specs.declared.cursors.Cursor.{Cursor}
+use Rattle.round_file.specs.declared.readers.Reader.{Reader}
 use Rattle.round_file.specs.declared.listings.Collected.{Collected}
 use Rattle.ring.specs.declared.faults.Fault.{Fault}
 use Rattle.round_file.proofs.Layouts.{heads_exact, records_exact}
 use Rattle.round_file.proofs.Lists.{few, one_way, within, written}
 use Rattle.round_file.proofs.listings.Listing.read.Goals as goal
 
--- What a reader gave that stood at the first record, said of the file's bytes.
-module _ (bs : List ℕ) (ticks p q count : ℕ) (start end : Cursor) (k : Collected) (yes-all : AllYes (head_questions bs)) (opened : Opened bs ticks p q count) (place : start.place ≡ 6) (read : start.read ≡ 0) (gave : Collects ticks count bs start k end) where
+-- A reader that was opened on a file, what it gave, and where it stands then.
+module _ (bs : List ℕ) (r r' : Reader) (k : Collected) (begun : Begun bs r) (gave : Collects r.header.ring.ticks r.header.count bs r.cursor k r'.cursor) where
   entries : List Entry
   entries = map told (vec_items k.records)
 
-  from_start : FileReads bs entries (stop_number k.stop) end.place
+  from_start : FileReads bs entries (stop_number k.stop) r'.cursor.place
   unfolding entries
   from_start =
-      let left : count - start.read ≡ (head_at bs).count = omega (arith, opened.count_is) in
-      subst (λ (n : ℕ). Reads n bs (head_at bs).count 6 entries (stop_number k.stop) end.place) opened.ticks_is
-      (subst (λ (n : ℕ). Reads ticks bs n 6 entries (stop_number k.stop) end.place) left
-      (subst (λ (n : ℕ). Reads ticks bs (count - start.read) n entries (stop_number k.stop) end.place) place gave.reads))
+      let left : r.header.count - r.cursor.read ≡ (head_at bs).count = omega (arith, begun.opened.count_is, begun.read) in
+      subst (λ (n : ℕ). Reads n bs (head_at bs).count 6 entries (stop_number k.stop) r'.cursor.place) begun.opened.ticks_is
+      (subst (λ (n : ℕ). Reads r.header.ring.ticks bs n 6 entries (stop_number k.stop) r'.cursor.place) left
+      (subst (λ (n : ℕ). Reads r.header.ring.ticks bs (r.header.count - r.cursor.read) n entries (stop_number k.stop) r'.cursor.place) begun.place gave.reads))
 
-  read_few : end.read ≤ 64
+  read_few : r'.cursor.read ≤ 64
   unfolding entries
   read_few =
-      let most : length (map told (vec_items k.records)) ≤ (head_at bs).count = few (head_at bs).ticks bs (head_at bs).count 6 entries (stop_number k.stop) end.place from_start in
-      omega (arith, gave.read, length-map (vec_items k.records) told, yes-all.1.1.0)
+      let most : length (map told (vec_items k.records)) ≤ (head_at bs).count = few (head_at bs).ticks bs (head_at bs).count 6 entries (stop_number k.stop) r'.cursor.place from_start in
+      omega (arith, gave.read, begun.read, length-map (vec_items k.records) told, begun.header.1.1.0)
 
-  listed : (left : ℕ) (fault : Option Fault) → left ≡ length bs - end.place → Faulted count end.read (stop_number k.stop) left fault → Listed bs (record { records = k.records; left = left; fault = fault })
+  listed : (left : ℕ) (fault : Option Fault) → r'.header ≡ r.header → left ≡ length bs - r'.cursor.place → Faulted r'.header.count r'.cursor.read (stop_number k.stop) left fault → Listed bs (record { records = k.records; left = left; fault = fault })
   unfolding entries
-  listed left fault is told-so =
+  listed left fault kept is told-so =
       let t : ℕ = (head_at bs).ticks in
       let n : ℕ = (head_at bs).count in
-      let inside : end.place ≤ length bs = within t bs n 6 entries (stop_number k.stop) end.place from_start yes-all.0 in
-      let so-many : end.read ≡ length (vec_items k.records) = omega (arith, gave.read) in
+      let inside : r'.cursor.place ≤ length bs = within t bs n 6 entries (stop_number k.stop) r'.cursor.place from_start begun.header.0 in
+      let counted : r'.header.count ≡ n = ap (λ h. h.count) kept ∙ begun.opened.count_is in
+      let so-many : r'.cursor.read ≡ length (vec_items k.records) = omega (arith, gave.read, begun.read) in
       record {
-        header = yes-all;
+        header = begun.header;
         stop = stop_number k.stop;
-        end = end.place;
+        end = r'.cursor.place;
         reads = from_start;
         left = omega arith;
         fault =
-            subst (λ (m : ℕ). Faulted m (length (vec_items k.records)) (stop_number k.stop) left fault) opened.count_is
-            (subst (λ (m : ℕ). Faulted count m (stop_number k.stop) left fault) so-many told-so);
+            subst (λ (m : ℕ). Faulted m (length (vec_items k.records)) (stop_number k.stop) left fault) counted
+            (subst (λ (m : ℕ). Faulted r'.header.count m (stop_number k.stop) left fault) so-many told-so);
         written =
-            written t bs n 6 entries (stop_number k.stop) end.place from_start
-            ∙ ap (λ l. l ++ flat_map entry_bytes entries) (sym opened.written);
+            written t bs n 6 entries (stop_number k.stop) r'.cursor.place from_start
+            ∙ ap (λ l. l ++ flat_map entry_bytes entries) (sym begun.opened.written);
         one = λ es fs s u m o a b. one_way t bs n 6 es fs s u m o a b;
         exact = (heads_exact, records_exact);
       }
 
 pub fault_of-fault-requires : goal.fault_of-fault-requires
 fault_of-fault-requires c =
-    let bs : List ℕ = c.args.bytes.now in
-    let h = c.in_ok-header.header in
-    let o : AllYes (head_questions bs) × Opened bs h.ring.ticks h.pace.p h.pace.q h.count = search rules in
-    let start = c.new-reader.result.cursor in
-    let end = c.collect.new.reader.cursor in
-    let gave : Collects h.ring.ticks h.count bs start c.in-Ok.field-0 end = search rules in
-    let most = read_few bs h.ring.ticks h.pace.p h.pace.q h.count start end c.in-Ok.field-0 o.0 o.1 c.new-reader.ensures.cursor.0 c.new-reader.ensures.cursor.1 gave in
-    omega (arith, ap (λ x. x.read) c.cursor.ensures)
+    read_few c.args.bytes.now c.in_ok-reader.reader c.collect.new.reader c.in_ok-records.field-0 (search rules) (search rules)
 
 pub returns : goal.returns
 returns c =
-    let bs : List ℕ = c.args.bytes.now in
-    let h = c.in_ok-header.header in
-    let o : AllYes (head_questions bs) × Opened bs h.ring.ticks h.pace.p h.pace.q h.count = search rules in
-    let start = c.new-reader.result.cursor in
-    let end = c.collect.new.reader.cursor in
-    let gave : Collects h.ring.ticks h.count bs start c.in-Ok.field-0 end = search rules in
-    listed bs h.ring.ticks h.pace.p h.pace.q h.count start end c.in-Ok.field-0 o.0 o.1 c.new-reader.ensures.cursor.0 c.new-reader.ensures.cursor.1 gave
-    c.left-left.result c.fault_of-fault.result (search rules) (search rules)
+    listed c.args.bytes.now c.in_ok-reader.reader c.collect.new.reader c.in_ok-records.field-0 (search rules) (search rules)
+    c.left.result c.fault_of-fault.result (search rules) (search rules) (search rules)
