@@ -1,109 +1,92 @@
 ghost use Rattle.std.specs.Prelude.{ℕ, ◌<◌, ◌≤◌, length, IfOk, MatchOption, OnOk};
-ghost use Rattle.placement.specs.Arcs.{InBounds};
 ghost use Rattle.placement.specs.Seatings.{plan};
 ghost use Rattle.search.specs.Partials.{Expanded, Full, Grown, Layered, Looked, Reads, Root, Soonest, Sound, nth};
 ghost use Rattle.search.specs.Searches.{FromStart};
 
 use crate::partials::{Arena, Partial};
-use crate::puts::{put_after, put_first, room_of, waits};
 use crate::sets::StaySet;
-use crate::tasks::Task;
+use crate::tasks::{Start, Task};
 use placement::{Seating, Stay};
-use ring::Pace;
 use std::alloc::{AllocError, Global};
 
-// The least end of a stay that is left, each at its least time; nothing where one of them would end
-// past the room.
-fn soonest(task: Task, room: u64, a: Partial) -> Option<u64>
-    ensures { Looked task.entry.ring.ticks task.entry.pace.p task.entry.pace.q task.entry.stays.now room a.set a.end result }
-{
-    let mut best = room;
-    for j in 0..task.stays.len() {
-        if a.set.has(j) {
-            continue;
+impl<'a> Start<'a> {
+    // The least end of a stay that is left, each at its least time; nothing where one of them would end
+    // past the room.
+    fn soonest(self, a: Partial) -> Option<u64>
+        ensures { Looked self.entry.task.ring.ticks self.entry.task.pace.p self.entry.task.pace.q self.entry.task.stays.now self.entry.room a.set a.end result }
+    {
+        let mut best = self.room;
+        for (j, stay) in self.task.stays.iter().enumerate() {
+            if a.set.has(j) {
+                continue;
+            }
+            let put = self.put_after(stay, a.end)?;
+            best = best.min(put.end);
         }
-        let put = put_after(task.ring, task.pace, &task.stays[j], a.end, room)?;
-        if put.end < best {
-            best = put.end;
-        }
+        Some(best)
     }
-    Some(best)
-}
 
-// Puts each stay that is left after the partial seating at `i`, at its least time, unless one that
-// ends at `soon` fits before it. The next layer begins at `hi`.
-fn expand(
-    task: Task,
-    room: u64,
-    arena: &mut Arena,
-    hi: usize,
-    i: usize,
-    soon: u64,
-) -> Result<(), AllocError>
-    requires place { (i < hi) × (hi ≤ length arena.old.partials.items) }
-    requires sound { Sound task.ring.ticks task.pace.p task.pace.q task.stays.now hi arena.old.partials.items }
-    requires alive { Soonest task.ring.ticks task.pace.p task.pace.q task.stays.now room (nth arena.old.partials.items i).set (nth arena.old.partials.items i).end (length task.stays.now) soon }
-    ensures { OnOk result (Expanded task.entry.ring.ticks task.entry.pace.p task.entry.pace.q task.entry.stays.now hi (nth arena.old.partials.items i).set (nth arena.old.partials.items i).end soon (length task.entry.stays.now) arena.old.partials.items arena.new.partials.items) }
-{
-    let a = arena.partials[i];
-    for j in 0..task.stays.len() {
-        if a.set.has(j) {
-            continue;
-        }
-        let stay = task.stays[j];
-        let Some(put) = put_after(task.ring, task.pace, &stay, a.end, room) else {
-            continue;
-        };
-        if waits(task.pace, &stay, put, soon) {
-            continue;
-        }
-        let more = Partial {
-            set: a.set.with(j),
-            end: put.end,
-            last: j,
-            time: put.time,
-            parent: i,
-        };
-        arena.keep(hi, more)?;
-    }
-    Ok(())
-}
-
-// The layer after the one that begins at `lo` and is the last.
-fn layer(
-    heap: Global,
-    task: Task,
-    room: u64,
-    arena: &mut Arena,
-    lo: usize,
-) -> Result<(), AllocError>
-    requires { Sound task.ring.ticks task.pace.p task.pace.q task.stays.now (length arena.old.partials.items) arena.old.partials.items }
-    ensures { OnOk result (Layered task.entry.ring.ticks task.entry.pace.p task.entry.pace.q task.entry.stays.now room lo (length arena.old.partials.items) arena.old.partials.items arena.new.partials.items) }
-{
-    let hi = arena.partials.len();
-    let count = hi.saturating_sub(lo).saturating_mul(task.stays.len());
-    arena.widen(heap, count)?;
-    for i in lo..hi {
+    // Puts each stay that is left after the partial seating at `i`, at its least time, unless one that
+    // ends at `soon` fits before it. The next layer begins at `hi`.
+    fn expand(self, arena: &mut Arena, hi: usize, i: usize, soon: u64) -> Result<(), AllocError>
+        requires place { (i < hi) × (hi ≤ length arena.old.partials.items) }
+        requires sound { Sound self.task.ring.ticks self.task.pace.p self.task.pace.q self.task.stays.now hi arena.old.partials.items }
+        requires alive { Soonest self.task.ring.ticks self.task.pace.p self.task.pace.q self.task.stays.now self.room (nth arena.old.partials.items i).set (nth arena.old.partials.items i).end (length self.task.stays.now) soon }
+        ensures { OnOk result (Expanded self.entry.task.ring.ticks self.entry.task.pace.p self.entry.task.pace.q self.entry.task.stays.now hi (nth arena.old.partials.items i).set (nth arena.old.partials.items i).end soon (length self.entry.task.stays.now) arena.old.partials.items arena.new.partials.items) }
+    {
         let a = arena.partials[i];
-        if let Some(soon) = soonest(task, room, a) {
-            expand(task, room, arena, hi, i, soon)?;
+        for (j, stay) in self.task.stays.iter().enumerate() {
+            if a.set.has(j) {
+                continue;
+            }
+            let Some(put) = self.put_after(stay, a.end) else {
+                continue;
+            };
+            if self.waits(stay, put, soon) {
+                continue;
+            }
+            let more = Partial {
+                set: a.set.with(j),
+                end: put.end,
+                last: j,
+                time: put.time,
+                parent: i,
+            };
+            arena.keep(hi, more)?;
         }
+        Ok(())
     }
-    Ok(())
-}
 
-// Grows one partial seating by a layer for each stay more; where the last layer begins.
-fn grow(heap: Global, task: Task, room: u64, arena: &mut Arena) -> Result<usize, AllocError>
-    requires { (0 < length arena.old.partials.items) × ((Sound task.ring.ticks task.pace.p task.pace.q task.stays.now (length arena.old.partials.items) arena.old.partials.items) × (0 < length task.stays.now)) }
-    ensures { IfOk result (λ lo. Grown task.entry.ring.ticks task.entry.pace.p task.entry.pace.q task.entry.stays.now room (length task.entry.stays.now) lo arena.old.partials.items arena.new.partials.items) }
-{
-    let mut lo = 0;
-    for _k in 1..task.stays.len() {
+    // The layer after the one that begins at `lo` and is the last.
+    fn layer(self, heap: Global, arena: &mut Arena, lo: usize) -> Result<(), AllocError>
+        requires { Sound self.task.ring.ticks self.task.pace.p self.task.pace.q self.task.stays.now (length arena.old.partials.items) arena.old.partials.items }
+        ensures { OnOk result (Layered self.entry.task.ring.ticks self.entry.task.pace.p self.entry.task.pace.q self.entry.task.stays.now self.entry.room lo (length arena.old.partials.items) arena.old.partials.items arena.new.partials.items) }
+    {
         let hi = arena.partials.len();
-        layer(heap, task, room, arena, lo)?;
-        lo = hi;
+        let count = hi.saturating_sub(lo).saturating_mul(self.task.stays.len());
+        arena.widen(heap, count)?;
+        for i in lo..hi {
+            let a = arena.partials[i];
+            if let Some(soon) = self.soonest(a) {
+                self.expand(arena, hi, i, soon)?;
+            }
+        }
+        Ok(())
     }
-    Ok(lo)
+
+    // Grows one partial seating by a layer for each stay more; where the last layer begins.
+    fn grow(self, heap: Global, arena: &mut Arena) -> Result<usize, AllocError>
+        requires { (0 < length arena.old.partials.items) × ((Sound self.task.ring.ticks self.task.pace.p self.task.pace.q self.task.stays.now (length arena.old.partials.items) arena.old.partials.items) × (0 < length self.task.stays.now)) }
+        ensures { IfOk result (λ lo. Grown self.entry.task.ring.ticks self.entry.task.pace.p self.entry.task.pace.q self.entry.task.stays.now self.entry.room (length self.entry.task.stays.now) lo arena.old.partials.items arena.new.partials.items) }
+    {
+        let mut lo = 0;
+        for _k in 1..self.task.stays.len() {
+            let hi = arena.partials.len();
+            self.layer(heap, arena, lo)?;
+            lo = hi;
+        }
+        Ok(lo)
+    }
 }
 
 // The first partial seating, from `lo` on, of all n stays that ends within the room.
@@ -140,11 +123,11 @@ fn read_back(heap: Global, partials: &[Partial], at: usize) -> Result<Seating, A
 }
 
 // The partial seating of the stay `t` alone, at its window's first position.
-fn root(pace: Pace, stay: &Stay, t: usize) -> Partial
+fn root(task: Task, stay: &Stay, t: usize) -> Partial
     requires { t < 64 }
-    ensures { Root pace.p pace.q stay.now t result }
+    ensures { Root task.entry.pace.p task.entry.pace.q stay.now t result }
 {
-    let put = put_first(pace, stay);
+    let put = task.put_first(stay);
     Partial {
         set: StaySet::empty().with(t),
         end: put.end,
@@ -162,17 +145,17 @@ pub fn from_start(
     arena: &mut Arena,
     t: usize,
 ) -> Result<Option<Seating>, AllocError>
-    ensures { InBounds task.entry.ring.ticks task.entry.stays.now → IfOk result (λ o. FromStart task.entry.ring.ticks task.entry.pace.p task.entry.pace.q task.entry.stays.now t o) }
+    ensures { IfOk result (λ o. FromStart task.entry.ring.ticks task.entry.pace.p task.entry.pace.q task.entry.stays.now t o) }
 {
     if t >= task.stays.len() {
         return Ok(None);
     }
     let first = task.stays[t];
-    let Some(room) = room_of(task.ring, task.pace, &first) else {
+    let Some(room) = task.room_of(&first) else {
         return Ok(None);
     };
-    arena.restart(root(task.pace, &first, t))?;
-    let lo = grow(heap, task, room, arena)?;
+    arena.restart(root(task, &first, t))?;
+    let lo = Start { task, room }.grow(heap, arena)?;
     match find_full(&arena.partials, task.stays.len(), lo, room) {
         None => Ok(None),
         Some(i) => Ok(Some(read_back(heap, &arena.partials, i)?)),

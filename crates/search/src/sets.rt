@@ -39,12 +39,7 @@ impl StaySet {
     pub fn has_all(&self, n: usize) -> bool
         ensures { Tells result ((j : ℕ) → j < n → In self.now j) }
     {
-        for j in 0..n {
-            if !self.has(j) {
-                return false;
-            }
-        }
-        true
+        (0..n).all(|j| self.has(j))
     }
 
     // A number by which to look for the set.

@@ -6,15 +6,15 @@ use Rattle.search.proofs.Seats.{full_seated, none_full, seated_below, seated_lea
 use Rattle.search.proofs.layers.from_start.Goals as goal
 
 pub returns-then-t-task : goal.returns-then-t-task
-returns-then-t-task c = λ good os ts s.
+returns-then-t-task c = λ os ts s.
     omega (arith, seated_below c.args.task.ring.ticks c.args.task.pace.p c.args.task.pace.q c.args.task.stays.now c.args.t _ os ts s, c.if-t-task.true)
 
 pub returns-in_default : goal.returns-in_default
-returns-in_default c = λ good os ts s.
+returns-in_default c = λ os ts s.
     omega (arith, seated_lead c.args.task.ring.ticks c.args.task.pace.p c.args.task.pace.q c.args.task.stays.now c.args.t _ os ts s, c.in_default.ensures)
 
 pub returns-in-None : goal.returns-in-None
-returns-in-None c = λ good os ts s.
+returns-in-None c = λ os ts s.
     let l = c.args.task.stays.now in
     let room = c.in-Some.room in
     let lo = c.in_ok-lo.lo in
@@ -31,7 +31,7 @@ read_back-requires c =
     subst P (sym c.deref-in-Some-find_full.ensures.value) (below, sound_parent c.args.task.ring.ticks c.args.task.pace.p c.args.task.pace.q c.args.task.stays.now c.in-Some.room (length new) new c.in_ok-lo.ensures.sound)
 
 pub returns-in_ok-read_back-in-Some-find_full : goal.returns-in_ok-read_back-in-Some-find_full
-returns-in_ok-read_back-in-Some-find_full c = λ good.
+returns-in_ok-read_back-in-Some-find_full c =
     let l = c.args.task.stays.now in
     let t = c.args.t in
     let room = c.in-Some.room in
@@ -42,4 +42,4 @@ returns-in_ok-read_back-in-Some-find_full c = λ good.
     let R : List Partial → Type 0 = λ ps. Reads ps i os ts in
     let full = subst F c.deref.ensures.value c.in-Some-find_full.ensures in
     let reads = subst R c.deref-in-Some-find_full.ensures.value c.in_ok-read_back-in-Some-find_full.ensures in
-    full_seated c.args.task.ring.ticks c.args.task.pace.p c.args.task.pace.q l room t c.in_ok-lo.lo c.root.result (vec_items c.restart.new.self.partials) (vec_items c.grow.new.arena.partials) c.in-Some.ensures c.root.ensures c.in_ok-restart.ensures c.in_ok-lo.ensures i os ts (omega arith) (good t (omega arith)).from full.1 reads
+    full_seated c.args.task.ring.ticks c.args.task.pace.p c.args.task.pace.q l room t c.in_ok-lo.lo c.root.result (vec_items c.restart.new.self.partials) (vec_items c.grow.new.arena.partials) c.in-Some.ensures c.root.ensures c.in_ok-restart.ensures c.in_ok-lo.ensures i os ts (omega arith) (c.args.task.good t (omega arith)).from full.1 reads

@@ -4,15 +4,15 @@ use Rattle.search.specs.Partials.{Dead, Expanded, Layered, Looked, Soonest, Soun
 use Rattle.search.specs.declared.partials.Arena.{Arena}
 use Rattle.search.specs.declared.partials.Partial.{Partial}
 use Rattle.search.proofs.Growing.{layered_more, layered_dead, layered_all}
-use Rattle.search.proofs.layers.layer.Goals as goal
-use Rattle.search.proofs.layers.layer.Goals.{in-Some+in_ok-expand, in_default}
+use Rattle.search.proofs.tasks.Start.layer.Goals as goal
+use Rattle.search.proofs.tasks.Start.layer.Goals.{in-Some+in_ok-expand, in_default}
 
 pub expand-requires : goal.expand-requires
 expand-requires c =
-    let C = c.args.task.ring.ticks in
-    let p = c.args.task.pace.p in
-    let q = c.args.task.pace.q in
-    let l = c.args.task.stays.now in
+    let C = c.args.self.task.ring.ticks in
+    let p = c.args.self.task.pace.p in
+    let q = c.args.self.task.pace.q in
+    let l = c.args.self.task.stays.now in
     let old = vec_items c.widen.new.self.partials in
     let mid = vec_items c.loop-i.arena.partials in
     let i = c.loop-i.i in
@@ -21,7 +21,7 @@ expand-requires c =
     let y = c.loop-i.invariant in
     let is : a ≡ nth mid i = get_or_read mid i a (omega (arith, y.long)) c.index-a.ensures no_partial in
     let S : ℕ → Type 0 = λ h. Sound C p q l h mid in
-    let D : Partial → Type 0 = λ v. Soonest C p q l c.args.room v.set v.end (length l) c.in-Some.soon in
+    let D : Partial → Type 0 = λ v. Soonest C p q l c.args.self.room v.set v.end (length l) c.in-Some.soon in
     record {
       place = (omega arith, omega (arith, y.long));
       sound = subst S (sym n) y.sound;
@@ -30,11 +30,11 @@ expand-requires c =
 
 pub loop-i-preserved : goal.loop-i-preserved
 loop-i-preserved c =
-    let C = c.args.task.ring.ticks in
-    let p = c.args.task.pace.p in
-    let q = c.args.task.pace.q in
-    let l = c.args.task.stays.now in
-    let room = c.args.room in
+    let C = c.args.self.task.ring.ticks in
+    let p = c.args.self.task.pace.p in
+    let q = c.args.self.task.pace.q in
+    let l = c.args.self.task.stays.now in
+    let room = c.args.self.room in
     let old = vec_items c.widen.new.self.partials in
     let mid = vec_items c.loop-i.arena.partials in
     let i = c.loop-i.i in
@@ -57,12 +57,12 @@ loop-i-preserved c =
 
 pub returns : goal.returns
 returns c =
-    let C = c.args.task.ring.ticks in
-    let p = c.args.task.pace.p in
-    let q = c.args.task.pace.q in
-    let l = c.args.task.stays.now in
+    let C = c.args.self.task.ring.ticks in
+    let p = c.args.self.task.pace.p in
+    let q = c.args.self.task.pace.q in
+    let l = c.args.self.task.stays.now in
     let old = vec_items c.widen.new.self.partials in
     let new = vec_items c.loop-i.arena.partials in
-    let P : List Partial → Type 0 = λ v. Layered C p q l c.args.room c.args.lo (length v) v new in
+    let P : List Partial → Type 0 = λ v. Layered C p q l c.args.self.room c.args.lo (length v) v new in
     let n : c.len-hi.result ≡ length old = omega (arith, c.len-hi.ensures, c.args.arena.now.partials.ok.0, ap length c.in_ok-widen.ensures) in
-    subst P c.in_ok-widen.ensures (layered_all C p q l c.args.room c.args.lo c.loop-i.i old new (omega arith) c.loop-i.invariant)
+    subst P c.in_ok-widen.ensures (layered_all C p q l c.args.self.room c.args.lo c.loop-i.i old new (omega arith) c.loop-i.invariant)

@@ -4,25 +4,25 @@ use Rattle.search.specs.Partials.{Expanded, Soonest, no_partial, nth}
 use Rattle.search.specs.declared.partials.Partial.{Partial}
 use Rattle.search.proofs.Bits.{not_held}
 use Rattle.search.proofs.Steps.{expanded_skip, expanded_waits, expanded_more}
-use Rattle.search.proofs.layers.expand.Goals as goal
+use Rattle.search.proofs.tasks.Start.expand.Goals as goal
 
 pub loop-j-preserved-then-has : goal.loop-j-preserved-then-has
 loop-j-preserved-then-has c =
     let a = c.index.result.now in
-    expanded_skip c.args.task.ring.ticks c.args.task.pace.p c.args.task.pace.q c.args.task.stays.now c.args.hi a.set a.end c.args.soon c.loop-j.j (vec_items c.args.arena.now.partials) (vec_items c.loop-j.arena.partials) c.loop-j.invariant (λ z. omega (arith, z, c.if-has.ensures.0 refl))
+    expanded_skip c.args.self.task.ring.ticks c.args.self.task.pace.p c.args.self.task.pace.q c.args.self.task.stays.now c.args.hi a.set a.end c.args.soon c.loop-j.j (vec_items c.args.arena.now.partials) (vec_items c.loop-j.arena.partials) c.loop-j.invariant (λ z. omega (arith, z, c.if-has.ensures.0 refl))
 
 -- No stay that is left ends past the room.
 pub loop-j-preserved-in_default : goal.loop-j-preserved-in_default
 loop-j-preserved-in_default c =
-    let C = c.args.task.ring.ticks in
-    let p = c.args.task.pace.p in
-    let q = c.args.task.pace.q in
-    let l = c.args.task.stays.now in
+    let C = c.args.self.task.ring.ticks in
+    let p = c.args.self.task.pace.p in
+    let q = c.args.self.task.pace.q in
+    let l = c.args.self.task.stays.now in
     let old = vec_items c.args.arena.now.partials in
     let a = c.index.result.now in
     let j = c.loop-j.j in
     let is : a ≡ nth old c.args.i = get_or_read old c.args.i a (omega arith) c.index.ensures no_partial in
-    let D : Partial → Type 0 = λ v. Soonest C p q l c.args.room v.set v.end (length l) c.args.soon in
+    let D : Partial → Type 0 = λ v. Soonest C p q l c.args.self.room v.set v.end (length l) c.args.soon in
     let d = subst D (sym is) c.requires.alive in
     expanded_skip C p q l c.args.hi a.set a.end c.args.soon j old (vec_items c.loop-j.arena.partials) c.loop-j.invariant
     (λ z. let r = d.each j c.loop-j-test.true z in omega (arith, r.3, c.in_default.ensures r.0 r.1.holds r.1.after))
@@ -33,14 +33,14 @@ loop-j-preserved-then-waits c =
     let put = c.in-Some.put in
     let f = c.in-Some.ensures in
     let w = c.if-waits.ensures.0 refl in
-    expanded_waits c.args.task.ring.ticks c.args.task.pace.p c.args.task.pace.q c.args.task.stays.now c.args.hi a.set a.end c.args.soon c.loop-j.j (vec_items c.args.arena.now.partials) (vec_items c.loop-j.arena.partials) put.time c.loop-j.invariant f.next (w.0, omega (arith, w.1, f.ends))
+    expanded_waits c.args.self.task.ring.ticks c.args.self.task.pace.p c.args.self.task.pace.q c.args.self.task.stays.now c.args.hi a.set a.end c.args.soon c.loop-j.j (vec_items c.args.arena.now.partials) (vec_items c.loop-j.arena.partials) put.time c.loop-j.invariant f.next (w.0, omega (arith, w.1, f.ends))
 
 pub loop-j-preserved : goal.loop-j-preserved
 loop-j-preserved c =
-    let C = c.args.task.ring.ticks in
-    let p = c.args.task.pace.p in
-    let q = c.args.task.pace.q in
-    let l = c.args.task.stays.now in
+    let C = c.args.self.task.ring.ticks in
+    let p = c.args.self.task.pace.p in
+    let q = c.args.self.task.pace.q in
+    let l = c.args.self.task.stays.now in
     let old = vec_items c.args.arena.now.partials in
     let a = c.index.result.now in
     let i = c.args.i in
@@ -50,14 +50,14 @@ loop-j-preserved c =
     let is : a ≡ nth old i = get_or_read old i a (omega arith) c.index.ensures no_partial in
     let b : Partial = record { set = c.with.result; end = put.end; last = j; time = put.time; parent = i } in
     let z = not_held a.set j c.if-has.ensures.1 in
-    expanded_more C p q l c.args.hi a.set a.end c.args.soon j old (vec_items c.loop-j.arena.partials) (vec_items c.keep.new.self.partials) b put.time c.loop-j.invariant (omega arith) z (ap (λ (v : Partial). v.set) (sym is)) (ap (λ (v : Partial). v.end) (sym is)) c.requires.place.0 refl refl (c.with.ensures.joined (omega (arith, c.args.task.few))) f.next f.ends c.in_ok-keep.ensures
+    expanded_more C p q l c.args.hi a.set a.end c.args.soon j old (vec_items c.loop-j.arena.partials) (vec_items c.keep.new.self.partials) b put.time c.loop-j.invariant (omega arith) z (ap (λ (v : Partial). v.set) (sym is)) (ap (λ (v : Partial). v.end) (sym is)) c.requires.place.0 refl refl (c.with.ensures.joined (omega (arith, c.args.self.task.few))) f.next f.ends c.in_ok-keep.ensures
 
 pub returns : goal.returns
 returns c =
-    let C = c.args.task.ring.ticks in
-    let p = c.args.task.pace.p in
-    let q = c.args.task.pace.q in
-    let l = c.args.task.stays.now in
+    let C = c.args.self.task.ring.ticks in
+    let p = c.args.self.task.pace.p in
+    let q = c.args.self.task.pace.q in
+    let l = c.args.self.task.stays.now in
     let old = vec_items c.args.arena.now.partials in
     let new = vec_items c.loop-j.arena.partials in
     let a = c.index.result.now in
