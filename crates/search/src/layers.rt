@@ -1,4 +1,4 @@
-ghost use Rattle.std.specs.Prelude.{ℕ, ◌<◌, ◌≤◌, length, IfOk, MatchOption, OnOk};
+ghost use Rattle.std.specs.Prelude.{◌≡◌, ℕ, ◌<◌, ◌≤◌, [], ◌∷◌, length, IfOk, MatchOption, OnOk};
 ghost use Rattle.placement.specs.Seatings.{plan};
 ghost use Rattle.search.specs.Partials.{Expanded, Full, Grown, Layered, Looked, Reads, Root, Soonest, Sound, nth};
 ghost use Rattle.search.specs.Searches.{FromStart};
@@ -27,12 +27,13 @@ impl<'a> Start<'a> {
     }
 
     // Puts each stay that is left after the partial seating at `i`, at its least time, unless one that
-    // ends at `soon` fits before it. The next layer begins at `hi`.
-    fn expand(self, arena: &mut Arena, hi: usize, i: usize, soon: u64) -> Result<(), AllocError>
-        requires place { (i < hi) × (hi ≤ length arena.old.partials.items) }
-        requires sound { Sound self.task.ring.ticks self.task.pace.p self.task.pace.q self.task.stays.now hi arena.old.partials.items }
+    // ends at `soon` fits before it.
+    fn expand(self, arena: &mut Arena, i: usize, soon: u64) -> Result<(), AllocError>
+        requires place { i < arena.old.layer }
+        requires sound { Sound self.task.ring.ticks self.task.pace.p self.task.pace.q self.task.stays.now arena.old.layer arena.old.partials.items }
         requires alive { Soonest self.task.ring.ticks self.task.pace.p self.task.pace.q self.task.stays.now self.room (nth arena.old.partials.items i).set (nth arena.old.partials.items i).end (length self.task.stays.now) soon }
-        ensures { OnOk result (Expanded self.entry.task.ring.ticks self.entry.task.pace.p self.entry.task.pace.q self.entry.task.stays.now hi (nth arena.old.partials.items i).set (nth arena.old.partials.items i).end soon (length self.entry.task.stays.now) arena.old.partials.items arena.new.partials.items) }
+        ensures expanded { OnOk result (Expanded self.entry.task.ring.ticks self.entry.task.pace.p self.entry.task.pace.q self.entry.task.stays.now arena.old.layer (nth arena.old.partials.items i).set (nth arena.old.partials.items i).end soon (length self.entry.task.stays.now) arena.old.partials.items arena.new.partials.items) }
+        ensures layer { arena.new.layer ≡ arena.old.layer }
     {
         let a = arena.partials[i];
         for (j, stay) in self.task.stays.iter().enumerate() {
@@ -52,40 +53,36 @@ impl<'a> Start<'a> {
                 time: put.time,
                 parent: i,
             };
-            arena.keep(hi, more)?;
+            arena.keep(more)?;
         }
         Ok(())
     }
 
-    // The layer after the one that begins at `lo` and is the last.
-    fn layer(self, heap: Global, arena: &mut Arena, lo: usize) -> Result<(), AllocError>
+    // The layer after the last.
+    fn layer(self, arena: &mut Arena) -> Result<(), AllocError>
         requires { Sound self.task.ring.ticks self.task.pace.p self.task.pace.q self.task.stays.now (length arena.old.partials.items) arena.old.partials.items }
-        ensures { OnOk result (Layered self.entry.task.ring.ticks self.entry.task.pace.p self.entry.task.pace.q self.entry.task.stays.now self.entry.room lo (length arena.old.partials.items) arena.old.partials.items arena.new.partials.items) }
+        ensures { OnOk result ((arena.new.layer ≡ length arena.old.partials.items) × Layered self.entry.task.ring.ticks self.entry.task.pace.p self.entry.task.pace.q self.entry.task.stays.now self.entry.room arena.old.layer (length arena.old.partials.items) arena.old.partials.items arena.new.partials.items) }
     {
-        let hi = arena.partials.len();
-        let count = hi.saturating_sub(lo).saturating_mul(self.task.stays.len());
-        arena.widen(heap, count)?;
-        for i in lo..hi {
+        let lo = arena.layer;
+        arena.begin_layer();
+        for i in lo..arena.layer {
             let a = arena.partials[i];
             if let Some(soon) = self.soonest(a) {
-                self.expand(arena, hi, i, soon)?;
+                self.expand(arena, i, soon)?;
             }
         }
         Ok(())
     }
 
-    // Grows one partial seating by a layer for each stay more; where the last layer begins.
-    fn grow(self, heap: Global, arena: &mut Arena) -> Result<usize, AllocError>
-        requires { (0 < length arena.old.partials.items) × ((Sound self.task.ring.ticks self.task.pace.p self.task.pace.q self.task.stays.now (length arena.old.partials.items) arena.old.partials.items) × (0 < length self.task.stays.now)) }
-        ensures { IfOk result (λ lo. Grown self.entry.task.ring.ticks self.entry.task.pace.p self.entry.task.pace.q self.entry.task.stays.now self.entry.room (length self.entry.task.stays.now) lo arena.old.partials.items arena.new.partials.items) }
+    // Grows one partial seating by a layer for each stay more.
+    fn grow(self, arena: &mut Arena, root: Partial) -> Result<(), AllocError>
+        ensures { OnOk result (Grown self.entry.task.ring.ticks self.entry.task.pace.p self.entry.task.pace.q self.entry.task.stays.now self.entry.room (length self.entry.task.stays.now) arena.new.layer (root ∷ []) arena.new.partials.items) }
     {
-        let mut lo = 0;
+        arena.restart(root)?;
         for _k in 1..self.task.stays.len() {
-            let hi = arena.partials.len();
-            self.layer(heap, arena, lo)?;
-            lo = hi;
+            self.layer(arena)?;
         }
-        Ok(lo)
+        Ok(())
     }
 }
 
@@ -154,9 +151,8 @@ pub fn from_start(
     let Some(room) = task.room_of(&first) else {
         return Ok(None);
     };
-    arena.restart(root(task, &first, t))?;
-    let lo = Start { task, room }.grow(heap, arena)?;
-    match find_full(&arena.partials, task.stays.len(), lo, room) {
+    Start { task, room }.grow(arena, root(task, &first, t))?;
+    match find_full(&arena.partials, task.stays.len(), arena.layer, room) {
         None => Ok(None),
         Some(i) => Ok(Some(read_back(heap, &arena.partials, i)?)),
     }

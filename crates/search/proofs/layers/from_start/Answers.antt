@@ -1,4 +1,4 @@
-use Rattle.std.proofs.Common.{ℕ, ◌<◌, ◌≤◌, List, length, vec_items, sym, subst, arith}
+use Rattle.std.proofs.Common.{ℕ, ◌<◌, ◌≤◌, List, [], ◌∷◌, length, vec_items, refl, sym, subst, arith}
 use Rattle.search.specs.Partials.{Full, Reads, nth}
 use Rattle.search.specs.declared.partials.Partial.{Partial}
 use Rattle.search.proofs.Growing.{sound_parent}
@@ -17,9 +17,9 @@ pub returns-in-None : goal.returns-in-None
 returns-in-None c = λ os ts s.
     let l = c.args.task.stays.now in
     let room = c.in-Some.room in
-    let lo = c.in_ok-lo.lo in
+    let lo = c.grow.new.arena.layer in
     let N : List Partial → Type 0 = λ ps. (x : ℕ) → lo ≤ x → x < length ps → Full (length l) room (nth ps x) → ⊥ in
-    none_full c.args.task.ring.ticks c.args.task.pace.p c.args.task.pace.q l room c.args.t lo c.root.result (vec_items c.restart.new.self.partials) (vec_items c.grow.new.arena.partials) c.in-Some.ensures c.root.ensures c.in_ok-restart.ensures c.in_ok-lo.ensures os ts (subst N c.deref.ensures.value c.in-None.ensures) s
+    none_full c.args.task.ring.ticks c.args.task.pace.p c.args.task.pace.q l room c.args.t lo c.root.result (c.root.result ∷ []) (vec_items c.grow.new.arena.partials) c.in-Some.ensures c.root.ensures refl c.in_ok-grow.ensures os ts (subst N c.deref.ensures.value c.in-None.ensures) s
 
 pub read_back-requires : goal.read_back-requires
 read_back-requires c =
@@ -28,7 +28,7 @@ read_back-requires c =
     let F : List Partial → Type 0 = λ ps. i < length ps in
     let P : List Partial → Type 0 = λ ps. (i < length ps) × ((x : ℕ) → x < length ps → 0 < x → (nth ps x).parent < x) in
     let below : i < length new = subst F c.deref.ensures.value c.in-Some-find_full.ensures.0 in
-    subst P (sym c.deref-in-Some-find_full.ensures.value) (below, sound_parent c.args.task.ring.ticks c.args.task.pace.p c.args.task.pace.q c.args.task.stays.now c.in-Some.room (length new) new c.in_ok-lo.ensures.sound)
+    subst P (sym c.deref-in-Some-find_full.ensures.value) (below, sound_parent c.args.task.ring.ticks c.args.task.pace.p c.args.task.pace.q c.args.task.stays.now c.in-Some.room (length new) new c.in_ok-grow.ensures.sound)
 
 pub returns-in_ok-read_back-in-Some-find_full : goal.returns-in_ok-read_back-in-Some-find_full
 returns-in_ok-read_back-in-Some-find_full c =
@@ -42,4 +42,4 @@ returns-in_ok-read_back-in-Some-find_full c =
     let R : List Partial → Type 0 = λ ps. Reads ps i os ts in
     let full = subst F c.deref.ensures.value c.in-Some-find_full.ensures in
     let reads = subst R c.deref-in-Some-find_full.ensures.value c.in_ok-read_back-in-Some-find_full.ensures in
-    full_seated c.args.task.ring.ticks c.args.task.pace.p c.args.task.pace.q l room t c.in_ok-lo.lo c.root.result (vec_items c.restart.new.self.partials) (vec_items c.grow.new.arena.partials) c.in-Some.ensures c.root.ensures c.in_ok-restart.ensures c.in_ok-lo.ensures i os ts (omega arith) (c.args.task.good t (omega arith)).from full.1 reads
+    full_seated c.args.task.ring.ticks c.args.task.pace.p c.args.task.pace.q l room t c.grow.new.arena.layer c.root.result (c.root.result ∷ []) (vec_items c.grow.new.arena.partials) c.in-Some.ensures c.root.ensures refl c.in_ok-grow.ensures i os ts (omega arith) (c.args.task.good t (omega arith)).from full.1 reads

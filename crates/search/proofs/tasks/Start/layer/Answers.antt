@@ -1,4 +1,4 @@
-use Rattle.std.proofs.Common.{◌≡◌, ℕ, ◌+◌, ◌<◌, List, length, vec_items, sym, ap, subst, arith}
+use Rattle.std.proofs.Common.{◌≡◌, ℕ, ◌+◌, ◌<◌, List, length, vec_items, sym, ap, ◌∙◌, subst, arith}
 use Rattle.std.proofs.lemmas.List.{get_or_read}
 use Rattle.search.specs.Partials.{Dead, Expanded, Layered, Looked, Soonest, Sound, no_partial, nth}
 use Rattle.search.specs.declared.partials.Arena.{Arena}
@@ -13,17 +13,17 @@ expand-requires c =
     let p = c.args.self.task.pace.p in
     let q = c.args.self.task.pace.q in
     let l = c.args.self.task.stays.now in
-    let old = vec_items c.widen.new.self.partials in
+    let old = vec_items c.begin_layer.new.self.partials in
     let mid = vec_items c.loop-i.arena.partials in
     let i = c.loop-i.i in
     let a = c.index-a.result.now in
-    let n : c.len-hi.result ≡ length old = omega (arith, c.len-hi.ensures, c.args.arena.now.partials.ok.0, ap length c.in_ok-widen.ensures) in
-    let y = c.loop-i.invariant in
+    let y = c.loop-i.invariant.made in
+    let n : c.loop-i.arena.layer ≡ length old = omega (arith, c.loop-i.invariant.layer, c.begin_layer.ensures.layer, ap length c.begin_layer.ensures.same) in
     let is : a ≡ nth mid i = get_or_read mid i a (omega (arith, y.long)) c.index-a.ensures no_partial in
     let S : ℕ → Type 0 = λ h. Sound C p q l h mid in
     let D : Partial → Type 0 = λ v. Soonest C p q l c.args.self.room v.set v.end (length l) c.in-Some.soon in
     record {
-      place = (omega arith, omega (arith, y.long));
+      place = omega (arith, c.loop-i.invariant.layer);
       sound = subst S (sym n) y.sound;
       alive = subst D is c.in-Some.ensures;
     }
@@ -35,24 +35,32 @@ loop-i-preserved c =
     let q = c.args.self.task.pace.q in
     let l = c.args.self.task.stays.now in
     let room = c.args.self.room in
-    let old = vec_items c.widen.new.self.partials in
+    let lo = c.args.arena.now.layer in
+    let old = vec_items c.begin_layer.new.self.partials in
     let mid = vec_items c.loop-i.arena.partials in
     let i = c.loop-i.i in
     let a = c.index-a.result.now in
-    let n : c.len-hi.result ≡ length old = omega (arith, c.len-hi.ensures, c.args.arena.now.partials.ok.0, ap length c.in_ok-widen.ensures) in
-    let y = c.loop-i.invariant in
-    let hi : i < length old = omega arith in
+    let y = c.loop-i.invariant.made in
+    let n : c.loop-i.arena.layer ≡ length old = omega (arith, c.loop-i.invariant.layer, c.begin_layer.ensures.layer, ap length c.begin_layer.ensures.same) in
+    let hi : i < length old = omega (arith, n, c.loop-i.invariant.layer) in
     let is : a ≡ nth mid i = get_or_read mid i a (omega (arith, y.long)) c.index-a.ensures no_partial in
-    let E : Arena → Type 0 = λ v. Layered C p q l room c.args.lo (i + 1) old (vec_items v.partials) in
+    let L : Arena → Type 0 = λ v. v.layer ≡ c.begin_layer.new.self.layer in
+    let E : Arena → Type 0 = λ v. Layered C p q l room lo (i + 1) old (vec_items v.partials) in
     elim c.match-soonest.branch [
       | in-Some+in_ok-expand w ↦
           let D : Partial → Type 0 = λ v. Soonest C p q l room v.set v.end (length l) w.in-Some.soon in
           let X : ℕ → Type 0 = λ h. Expanded C p q l h (nth mid i).set (nth mid i).end w.in-Some.soon (length l) mid (vec_items w.expand.new.arena.partials) in
-          subst E (sym w.arena-is) (layered_more C p q l room c.args.lo i w.in-Some.soon old mid (vec_items w.expand.new.arena.partials) hi y (subst D is w.in-Some.ensures) (subst X n w.in_ok-expand.ensures))
+          record {
+            layer = subst L (sym w.arena-is) (w.expand.ensures.layer ∙ c.loop-i.invariant.layer);
+            made = subst E (sym w.arena-is) (layered_more C p q l room lo i w.in-Some.soon old mid (vec_items w.expand.new.arena.partials) hi y (subst D is w.in-Some.ensures) (subst X n w.in_ok-expand.ensures.expanded));
+          }
       | in_default w ↦
           let G = λ (o : _). Looked C p q l room a.set a.end o in
           let D : Partial → Type 0 = λ v. Dead C p q l room v.set v.end in
-          subst E (sym w.arena-is) (layered_dead C p q l room c.args.lo i old mid hi y (subst D is (subst G w.in_default.is c.soonest.ensures)))
+          record {
+            layer = subst L (sym w.arena-is) c.loop-i.invariant.layer;
+            made = subst E (sym w.arena-is) (layered_dead C p q l room lo i old mid hi y (subst D is (subst G w.in_default.is c.soonest.ensures)));
+          }
     ]
 
 pub returns : goal.returns
@@ -61,8 +69,8 @@ returns c =
     let p = c.args.self.task.pace.p in
     let q = c.args.self.task.pace.q in
     let l = c.args.self.task.stays.now in
-    let old = vec_items c.widen.new.self.partials in
+    let old = vec_items c.begin_layer.new.self.partials in
     let new = vec_items c.loop-i.arena.partials in
-    let P : List Partial → Type 0 = λ v. Layered C p q l c.args.self.room c.args.lo (length v) v new in
-    let n : c.len-hi.result ≡ length old = omega (arith, c.len-hi.ensures, c.args.arena.now.partials.ok.0, ap length c.in_ok-widen.ensures) in
-    subst P c.in_ok-widen.ensures (layered_all C p q l c.args.self.room c.args.lo c.loop-i.i old new (omega arith) c.loop-i.invariant)
+    let P : List Partial → Type 0 = λ v. Layered C p q l c.args.self.room c.args.arena.now.layer (length v) v new in
+    let n : c.loop-i.arena.layer ≡ length (vec_items c.args.arena.now.partials) = omega (arith, c.loop-i.invariant.layer, c.begin_layer.ensures.layer) in
+    (n, subst P c.begin_layer.ensures.same (layered_all C p q l c.args.self.room c.args.arena.now.layer c.loop-i.i old new (omega (arith, c.begin_layer.ensures.layer, ap length c.begin_layer.ensures.same)) c.loop-i.invariant.made))
