@@ -90,13 +90,7 @@ impl<'a> Start<'a> {
 fn find_full(partials: &[Partial], n: usize, lo: usize, room: u64) -> Option<usize>
     ensures { MatchOption result ((x : ℕ) → lo ≤ x → x < length partials.now → Full n room (nth partials.now x) → ⊥) (λ x. (x < length partials.now) × Full n room (nth partials.now x)) }
 {
-    for i in lo..partials.len() {
-        let a = partials[i];
-        if a.end <= room && a.set.has_all(n) {
-            return Some(i);
-        }
-    }
-    None
+    (lo..partials.len()).find(|i| partials[*i].is_full(n, room))
 }
 
 // The seating at the place `at`, from its first stay on.
@@ -107,13 +101,15 @@ fn read_back(heap: Global, partials: &[Partial], at: usize) -> Result<Seating, A
     let mut order = Vec::new(heap);
     let mut times = Vec::new(heap);
     let mut i = at;
-    while i != 0 {
-        order.push(partials[i].last)?;
-        times.push(partials[i].time)?;
-        i = partials[i].parent;
+    loop {
+        let a = partials[i];
+        order.push(a.last)?;
+        times.push(a.time)?;
+        if i == 0 {
+            break;
+        }
+        i = a.parent;
     }
-    order.push(partials[0].last)?;
-    times.push(partials[0].time)?;
     order.reverse();
     times.reverse();
     Ok(Seating { order, times })

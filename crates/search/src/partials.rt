@@ -1,6 +1,7 @@
 ghost use Rattle.std.specs.Prelude.{◌≡◌, [], ◌∷◌, length, OnOk};
 ghost use Rattle.std.specs.HashMap.{get};
-ghost use Rattle.search.specs.Partials.{Kept, Placed, same_set};
+ghost use Rattle.ring.specs.Questions.{Tells};
+ghost use Rattle.search.specs.Partials.{Full, Kept, Placed, same_set};
 
 use crate::sets::StaySet;
 use std::alloc::{AllocError, Global};
@@ -15,6 +16,15 @@ pub struct Partial {
     pub last: usize,
     pub time: u64,
     pub parent: usize,
+}
+
+impl Partial {
+    // Whether it seats all n stays and ends within the room.
+    pub fn is_full(&self, n: usize, room: u64) -> bool
+        ensures { Tells result (Full n room self.now) }
+    {
+        self.end <= room && self.set.has_all(n)
+    }
 }
 
 // The partial seatings so far, layer after layer, where the last layer begins, and the place of each
