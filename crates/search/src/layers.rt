@@ -65,6 +65,7 @@ impl<'a> Start<'a> {
     {
         let lo = arena.layer;
         arena.begin_layer();
+        // by index, since the arena grows meanwhile
         for i in lo..arena.layer {
             let a = arena.partials[i];
             if let Some(soon) = self.soonest(a) {
@@ -84,35 +85,6 @@ impl<'a> Start<'a> {
         }
         Ok(())
     }
-}
-
-// The first partial seating, from `lo` on, of all n stays that ends within the room.
-fn find_full(partials: &[Partial], n: usize, lo: usize, room: u64) -> Option<usize>
-    ensures { MatchOption result ((x : ℕ) → lo ≤ x → x < length partials.now → Full n room (nth partials.now x) → ⊥) (λ x. (x < length partials.now) × Full n room (nth partials.now x)) }
-{
-    (lo..partials.len()).find(|i| partials[*i].is_full(n, room))
-}
-
-// The seating at the place `at`, from its first stay on.
-fn read_back(heap: Global, partials: &[Partial], at: usize) -> Result<Seating, AllocError>
-    requires { (at < length partials.now) × (((x : ℕ) → x < length partials.now → 0 < x → (nth partials.now x).parent < x)) }
-    ensures { IfOk result (λ s. Reads partials.now at (plan s).order (plan s).times) }
-{
-    let mut order = Vec::new(heap);
-    let mut times = Vec::new(heap);
-    let mut i = at;
-    loop {
-        let a = partials[i];
-        order.push(a.last)?;
-        times.push(a.time)?;
-        if i == 0 {
-            break;
-        }
-        i = a.parent;
-    }
-    order.reverse();
-    times.reverse();
-    Ok(Seating { order, times })
 }
 
 // The partial seating of the stay `t` alone, at its window's first position.
@@ -148,8 +120,8 @@ pub fn from_start(
         return Ok(None);
     };
     Start { task, room }.grow(arena, root(task, &first, t))?;
-    match find_full(&arena.partials, task.stays.len(), arena.layer, room) {
+    match arena.find_full(task.stays.len(), room) {
         None => Ok(None),
-        Some(i) => Ok(Some(read_back(heap, &arena.partials, i)?)),
+        Some(i) => Ok(Some(arena.read_back(heap, i)?)),
     }
 }

@@ -1,20 +1,23 @@
-ghost use Rattle.std.specs.Prelude.{◌≡◌, [], ◌∷◌, length, OnOk};
+ghost use Rattle.std.specs.Prelude.{◌≡◌, ℕ, ◌<◌, ◌≤◌, [], ◌∷◌, length, IfOk, MatchOption, OnOk};
 ghost use Rattle.std.specs.HashMap.{get};
+ghost use Rattle.placement.specs.Seatings.{plan};
 ghost use Rattle.ring.specs.Questions.{Tells};
-ghost use Rattle.search.specs.Partials.{Full, Kept, Placed, same_set};
+ghost use Rattle.search.specs.Partials.{Full, Kept, Placed, Reads, nth, same_set};
 
 use crate::sets::StaySet;
+use placement::Seating;
 use std::alloc::{AllocError, Global};
 use std::collections::HashMap;
 
 // A seating of some of the stays: which, where the last of them ends, the last and its time, and the
-// place of the partial seating without it.
+// place of the partial seating without it; the first has none.
 #[derive(Clone, Copy)]
 pub struct Partial {
     pub set: StaySet,
     pub end: u64,
     pub last: usize,
     pub time: u64,
+    // a place, since many share it: an Rc would allocate for each, and be no plainer
     pub parent: usize,
 }
 
@@ -77,9 +80,40 @@ impl Arena {
             }
             return Ok(());
         }
+        // room first, so that an error leaves it in neither
         self.partials.reserve(1)?;
         self.places.insert(a.set, self.partials.len())?;
         self.partials.push(a).unwrap();
         Ok(())
+    }
+    // The first of the last layer that seats all n stays and ends within the room.
+    pub fn find_full(&self, n: usize, room: u64) -> Option<usize>
+        ensures { MatchOption result ((x : ℕ) → self.now.layer ≤ x → x < length self.now.partials.items → Full n room (nth self.now.partials.items x) → ⊥) (λ x. (x < length self.now.partials.items) × Full n room (nth self.now.partials.items x)) }
+    {
+        let partials = self.partials.as_slice();
+        (self.layer..partials.len()).find(|i| partials[*i].is_full(n, room))
+    }
+
+    // The seating at the place `at`, from its first stay on.
+    pub fn read_back(&self, heap: Global, at: usize) -> Result<Seating, AllocError>
+        requires { (at < length self.now.partials.items) × ((x : ℕ) → x < length self.now.partials.items → 0 < x → (nth self.now.partials.items x).parent < x) }
+        ensures { IfOk result (λ s. Reads self.now.partials.items at (plan s).order (plan s).times) }
+    {
+        let partials = self.partials.as_slice();
+        let mut order = Vec::new(heap);
+        let mut times = Vec::new(heap);
+        let mut i = at;
+        loop {
+            let a = partials[i];
+            order.push(a.last)?;
+            times.push(a.time)?;
+            if i == 0 {
+                break;
+            }
+            i = a.parent;
+        }
+        order.reverse();
+        times.reverse();
+        Ok(Seating { order, times })
     }
 }

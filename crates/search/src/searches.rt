@@ -42,7 +42,7 @@ impl From<AllocError> for NotFound {
     ghost from_gives = { λ _ e. e ≡ NoMemory };
 
     fn from(_e: AllocError) -> NotFound {
-        NotFound::NoMemory
+        Self::NoMemory
     }
 }
 
@@ -51,6 +51,7 @@ fn from_all(heap: Global, task: Task) -> Result<Seating, NotFound>
     ensures { FromAll task.entry.ring.ticks task.entry.pace.p task.entry.pace.q task.entry.stays.now result }
 {
     let mut arena = Arena::new(heap);
+    // by index, since a start is told by its index
     for t in 0..task.stays.len() {
         if let Some(seating) = from_start(heap, task, &mut arena, t)? {
             return Ok(seating);

@@ -2,7 +2,7 @@ use Rattle.std.proofs.Common.{ℕ, ◌<◌, List, [], reverse, length, vec_items
 use Rattle.placement.specs.declared.stays.Stay.{Stay}
 use Rattle.search.specs.Roads.{Whole}
 use Rattle.search.specs.Partials.{Sound, nth}
-use Rattle.search.proofs.layers.read_back.Given as goal
+use Rattle.search.proofs.partials.Arena.read_back.Given as goal
 
 abbrev pub invariant-loop-times : goal.invariant-loop-times
 invariant-loop-times l =
