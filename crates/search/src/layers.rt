@@ -26,16 +26,15 @@ impl<'a> Start<'a> {
         Some(best)
     }
 
-    // Puts each stay that is left after the partial seating at `i`, at its least time, unless one that
+    // Puts each stay that is left after `a`, which stands at `i`, at its least time, unless one that
     // ends at `soon` fits before it.
-    fn expand(self, arena: &mut Arena, i: usize, soon: u64) -> Result<(), AllocError>
-        requires place { i < arena.old.layer }
+    fn expand(self, arena: &mut Arena, i: usize, a: Partial, soon: u64) -> Result<(), AllocError>
+        requires place { (i < arena.old.layer) × (nth arena.old.partials.items i ≡ a) }
         requires sound { Sound self.task.ring.ticks self.task.pace.p self.task.pace.q self.task.stays.now arena.old.layer arena.old.partials.items }
-        requires alive { Soonest self.task.ring.ticks self.task.pace.p self.task.pace.q self.task.stays.now self.room (nth arena.old.partials.items i).set (nth arena.old.partials.items i).end (length self.task.stays.now) soon }
-        ensures expanded { OnOk result (Expanded self.entry.task.ring.ticks self.entry.task.pace.p self.entry.task.pace.q self.entry.task.stays.now arena.old.layer (nth arena.old.partials.items i).set (nth arena.old.partials.items i).end soon (length self.entry.task.stays.now) arena.old.partials.items arena.new.partials.items) }
+        requires alive { Soonest self.task.ring.ticks self.task.pace.p self.task.pace.q self.task.stays.now self.room a.set a.end (length self.task.stays.now) soon }
+        ensures expanded { OnOk result (Expanded self.entry.task.ring.ticks self.entry.task.pace.p self.entry.task.pace.q self.entry.task.stays.now arena.old.layer a.set a.end soon (length self.entry.task.stays.now) arena.old.partials.items arena.new.partials.items) }
         ensures layer { arena.new.layer ≡ arena.old.layer }
     {
-        let a = arena.partials[i];
         for (j, stay) in self.task.stays.iter().enumerate() {
             if a.set.has(j) {
                 continue;
@@ -69,7 +68,7 @@ impl<'a> Start<'a> {
         for i in lo..arena.layer {
             let a = arena.partials[i];
             if let Some(soon) = self.soonest(a) {
-                self.expand(arena, i, soon)?;
+                self.expand(arena, i, a, soon)?;
             }
         }
         Ok(())

@@ -1,6 +1,5 @@
 use Rattle.std.proofs.Common.{◌≡◌, ℕ, length, vec_items, sym, refl, ap, ◌∙◌, subst, arith}
-use Rattle.std.proofs.lemmas.List.{get_or_read}
-use Rattle.search.specs.Partials.{Expanded, Kept, Soonest, no_partial, nth}
+use Rattle.search.specs.Partials.{Expanded, Kept}
 use Rattle.search.specs.declared.partials.Partial.{Partial}
 use Rattle.search.proofs.Bits.{not_held}
 use Rattle.search.proofs.Steps.{expanded_skip, expanded_waits, expanded_more}
@@ -8,7 +7,7 @@ use Rattle.search.proofs.tasks.Start.expand.Goals as goal
 
 pub loop-j-preserved-then-has : goal.loop-j-preserved-then-has
 loop-j-preserved-then-has c =
-    let a = c.index.result.now in
+    let a = c.args.a in
     record {
       layer = c.loop-j.invariant.layer;
       expanded = expanded_skip c.args.self.task.ring.ticks c.args.self.task.pace.p c.args.self.task.pace.q c.args.self.task.stays.now c.args.arena.now.layer a.set a.end c.args.soon c.loop-j.j (vec_items c.args.arena.now.partials) (vec_items c.loop-j.arena.partials) c.loop-j.invariant.expanded (λ z. omega (arith, z, c.if-has.ensures.0 refl));
@@ -22,20 +21,17 @@ loop-j-preserved-in_default c =
     let q = c.args.self.task.pace.q in
     let l = c.args.self.task.stays.now in
     let old = vec_items c.args.arena.now.partials in
-    let a = c.index.result.now in
+    let a = c.args.a in
     let j = c.loop-j.j in
-    let is : a ≡ nth old c.args.i = get_or_read old c.args.i a (omega (arith, c.args.arena.now.placed.below)) c.index.ensures no_partial in
-    let D : Partial → Type 0 = λ v. Soonest C p q l c.args.self.room v.set v.end (length l) c.args.soon in
-    let d = subst D (sym is) c.requires.alive in
     record {
       layer = c.loop-j.invariant.layer;
       expanded = expanded_skip C p q l c.args.arena.now.layer a.set a.end c.args.soon j old (vec_items c.loop-j.arena.partials) c.loop-j.invariant.expanded
-          (λ z. let r = d.each j c.loop-j-test.true z in omega (arith, r.3, c.in_default.ensures r.0 r.1.holds r.1.after));
+          (λ z. let r = c.requires.alive.each j c.loop-j-test.true z in omega (arith, r.3, c.in_default.ensures r.0 r.1.holds r.1.after));
     }
 
 pub loop-j-preserved-then-waits : goal.loop-j-preserved-then-waits
 loop-j-preserved-then-waits c =
-    let a = c.index.result.now in
+    let a = c.args.a in
     let put = c.in-Some.put in
     let f = c.in-Some.ensures in
     let w = c.if-waits.ensures.0 refl in
@@ -51,18 +47,17 @@ loop-j-preserved c =
     let q = c.args.self.task.pace.q in
     let l = c.args.self.task.stays.now in
     let old = vec_items c.args.arena.now.partials in
-    let a = c.index.result.now in
+    let a = c.args.a in
     let i = c.args.i in
     let j = c.loop-j.j in
     let put = c.in-Some.put in
     let f = c.in-Some.ensures in
-    let is : a ≡ nth old i = get_or_read old i a (omega (arith, c.args.arena.now.placed.below)) c.index.ensures no_partial in
     let b : Partial = record { set = c.with.result; end = put.end; last = j; time = put.time; parent = i } in
     let z = not_held a.set j c.if-has.ensures.1 in
     let K : ℕ → Type 0 = λ h. Kept (vec_items c.loop-j.arena.partials) (vec_items c.keep.new.self.partials) h b in
     record {
       layer = c.keep.ensures.layer ∙ c.loop-j.invariant.layer;
-      expanded = expanded_more C p q l c.args.arena.now.layer a.set a.end c.args.soon j old (vec_items c.loop-j.arena.partials) (vec_items c.keep.new.self.partials) b put.time c.loop-j.invariant.expanded (omega arith) z (ap (λ (v : Partial). v.set) (sym is)) (ap (λ (v : Partial). v.end) (sym is)) c.requires.place refl refl (c.with.ensures.joined (omega (arith, c.args.self.task.few))) f.next f.ends (subst K c.loop-j.invariant.layer c.in_ok-keep.ensures.kept);
+      expanded = expanded_more C p q l c.args.arena.now.layer a.set a.end c.args.soon j old (vec_items c.loop-j.arena.partials) (vec_items c.keep.new.self.partials) b put.time c.loop-j.invariant.expanded (omega arith) z (ap (λ (v : Partial). v.set) c.requires.place.1) (ap (λ (v : Partial). v.end) c.requires.place.1) c.requires.place.0 refl refl (c.with.ensures.joined (omega (arith, c.args.self.task.few))) f.next f.ends (subst K c.loop-j.invariant.layer c.in_ok-keep.ensures.kept);
     }
 
 pub returns-clause-expanded : goal.returns-clause-expanded
@@ -73,9 +68,7 @@ returns-clause-expanded c =
     let l = c.args.self.task.stays.now in
     let old = vec_items c.args.arena.now.partials in
     let new = vec_items c.loop-j.arena.partials in
-    let a = c.index.result.now in
-    let is : a ≡ nth old c.args.i = get_or_read old c.args.i a (omega (arith, c.args.arena.now.placed.below)) c.index.ensures no_partial in
+    let a = c.args.a in
     let n : c.loop-j.j ≡ length l = omega arith in
     let N : ℕ → Type 0 = λ k. Expanded C p q l c.args.arena.now.layer a.set a.end c.args.soon k old new in
-    let P : Partial → Type 0 = λ v. Expanded C p q l c.args.arena.now.layer v.set v.end c.args.soon (length l) old new in
-    subst P is (subst N n c.loop-j.invariant.expanded)
+    subst N n c.loop-j.invariant.expanded

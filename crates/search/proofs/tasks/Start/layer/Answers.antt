@@ -21,11 +21,10 @@ expand-requires c =
     let n : c.loop-i.arena.layer ≡ length old = omega (arith, c.loop-i.invariant.layer, c.begin_layer.ensures.layer, ap length c.begin_layer.ensures.same) in
     let is : a ≡ nth mid i = get_or_read mid i a (omega (arith, y.long)) c.index-a.ensures no_partial in
     let S : ℕ → Type 0 = λ h. Sound C p q l h mid in
-    let D : Partial → Type 0 = λ v. Soonest C p q l c.args.self.room v.set v.end (length l) c.in-Some.soon in
     record {
-      place = omega (arith, c.loop-i.invariant.layer);
+      place = (omega (arith, c.loop-i.invariant.layer), sym is);
       sound = subst S (sym n) y.sound;
-      alive = subst D is c.in-Some.ensures;
+      alive = c.in-Some.ensures;
     }
 
 pub loop-i-preserved : goal.loop-i-preserved
@@ -49,10 +48,11 @@ loop-i-preserved c =
     elim c.match-soonest.branch [
       | in-Some+in_ok-expand w ↦
           let D : Partial → Type 0 = λ v. Soonest C p q l room v.set v.end (length l) w.in-Some.soon in
-          let X : ℕ → Type 0 = λ h. Expanded C p q l h (nth mid i).set (nth mid i).end w.in-Some.soon (length l) mid (vec_items w.expand.new.arena.partials) in
+          let X : ℕ → Type 0 = λ h. Expanded C p q l h a.set a.end w.in-Some.soon (length l) mid (vec_items w.expand.new.arena.partials) in
+          let Y : Partial → Type 0 = λ v. Expanded C p q l (length old) v.set v.end w.in-Some.soon (length l) mid (vec_items w.expand.new.arena.partials) in
           record {
             layer = subst L (sym w.arena-is) (w.expand.ensures.layer ∙ c.loop-i.invariant.layer);
-            made = subst E (sym w.arena-is) (layered_more C p q l room lo i w.in-Some.soon old mid (vec_items w.expand.new.arena.partials) hi y (subst D is w.in-Some.ensures) (subst X n w.in_ok-expand.ensures.expanded));
+            made = subst E (sym w.arena-is) (layered_more C p q l room lo i w.in-Some.soon old mid (vec_items w.expand.new.arena.partials) hi y (subst D is w.in-Some.ensures) (subst Y is (subst X n w.in_ok-expand.ensures.expanded)));
           }
       | in_default w ↦
           let G = λ (o : _). Looked C p q l room a.set a.end o in
