@@ -28,6 +28,7 @@ impl<'a> Start<'a> {
 
     // Puts each stay that is left after `a`, which stands at `i`, at its least time, unless one that
     // ends at `soon` fits before it.
+    #[tactic(auto, using(crate::proofs::Steps::expanded_skip, crate::proofs::Steps::expanded_waits))]
     fn expand(self, arena: &mut Arena, i: usize, a: Partial, soon: u64) -> Result<(), AllocError>
         requires place { (i < arena.old.layer) × (nth arena.old.partials.items i ≡ a) }
         requires sound { Sound self.task.ring.ticks self.task.pace.p self.task.pace.q self.task.stays.now arena.old.layer arena.old.partials.items }
@@ -75,6 +76,7 @@ impl<'a> Start<'a> {
     }
 
     // Grows one partial seating by a layer for each stay more.
+    #[tactic(auto, using(crate::proofs::Growing::grown_first))]
     fn grow(self, arena: &mut Arena, root: Partial) -> Result<(), AllocError>
         ensures { OnOk result (Grown self.entry.task.ring.ticks self.entry.task.pace.p self.entry.task.pace.q self.entry.task.stays.now self.entry.room (length self.entry.task.stays.now) arena.new.layer (root ∷ []) arena.new.partials.items) }
     {
@@ -103,6 +105,7 @@ fn root(task: Task, stay: &Stay, t: usize) -> Partial
 
 // A seating that has the stay `t` first, at its window's first position. It is found wherever there
 // is one.
+#[tactic(auto, using(crate::proofs::Seats::seated_below, crate::proofs::Seats::seated_lead))]
 pub fn from_start(
     heap: Global,
     task: Task,

@@ -41,6 +41,7 @@ impl<'a> Task<'a> {
 impl<'a> Start<'a> {
     // The stay at the least time that its window allows after an end, nothing where it would end past
     // the room.
+    #[tactic(auto, using(crate::proofs::Roads::late_low, crate::proofs::Roads::next_is))]
     pub fn put_after(self, stay: &Stay, end: u64) -> Option<Put>
         ensures { MatchOption result (Late self.entry.task.ring.ticks self.entry.task.pace.p self.entry.task.pace.q self.entry.room end stay.now) (λ x. Fitted self.entry.task.ring.ticks self.entry.task.pace.p self.entry.task.pace.q self.entry.room end stay.now x.time x.end) }
     {

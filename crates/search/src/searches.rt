@@ -47,6 +47,7 @@ impl From<AllocError> for NotFound {
 }
 
 // The first seating found, from each start in turn.
+#[tactic(auto, using(crate::proofs::Seats::none_lawful))]
 fn from_all(heap: Global, task: Task) -> Result<Seating, NotFound>
     ensures { FromAll task.entry.ring.ticks task.entry.pace.p task.entry.pace.q task.entry.stays.now result }
 {
@@ -60,11 +61,13 @@ fn from_all(heap: Global, task: Task) -> Result<Seating, NotFound>
     Err(NotFound::NoneLawful)
 }
 
+#[tactic(auto, using(placement::proofs::Leaving::empty_seated))]
 fn empty_is_lawful(ring: Ring, pace: Pace, stays: &[Stay])
     ensures { length stays.now ≡ 0 → Lawful ring.ticks pace.p pace.q stays.now no_plan }
 {}
 
 // Begun again at the list's first stay, a seating that keeps the rules is lawful.
+#[tactic(auto, unfolding(placement::specs::Seatings::Lawful))]
 fn begin_at_first(ring: Ring, pace: Pace, stays: &[Stay], seating: &mut Seating)
     requires { (0 < length stays.now) × (Seated ring.ticks pace.p pace.q stays.now (plan seating.old)) }
     ensures { Lawful ring.ticks pace.p pace.q stays.now (plan seating.new) }

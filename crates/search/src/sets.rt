@@ -23,6 +23,7 @@ impl StaySet {
     }
 
     // With one stay more. An index of 64 or more leaves the set as it is.
+    #[tactic(auto, using(crate::proofs::Bits::joined))]
     pub fn with(&self, stay: usize) -> StaySet
         ensures joined { stay < 64 → Joined self.now stay result }
         ensures same { 64 ≤ stay → result ≡ self.now }

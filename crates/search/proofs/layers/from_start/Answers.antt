@@ -1,17 +1,6 @@
-use Rattle.std.proofs.Common.{ℕ, ◌<◌, ◌≤◌, List, [], ◌∷◌, length, vec_items, refl, sym, subst, arith}
-use Rattle.search.specs.Partials.{Full, Reads, nth}
-use Rattle.search.specs.declared.partials.Partial.{Partial}
-use Rattle.search.proofs.Growing.{sound_parent}
-use Rattle.search.proofs.Seats.{full_seated, none_full, seated_below, seated_lead}
+use Rattle.std.proofs.Common.{[], ◌∷◌, vec_items, refl, arith}
+use Rattle.search.proofs.Seats.{full_seated, none_full}
 use Rattle.search.proofs.layers.from_start.Goals as goal
-
-pub returns-then-t-task : goal.returns-then-t-task
-returns-then-t-task c = λ os ts s.
-    omega (arith, seated_below c.args.task.ring.ticks c.args.task.pace.p c.args.task.pace.q c.args.task.stays.now c.args.t _ os ts s, c.if-t-task.true)
-
-pub returns-in_default : goal.returns-in_default
-returns-in_default c = λ os ts s.
-    omega (arith, seated_lead c.args.task.ring.ticks c.args.task.pace.p c.args.task.pace.q c.args.task.stays.now c.args.t _ os ts s, c.in_default.ensures)
 
 pub returns-in-None : goal.returns-in-None
 returns-in-None c = λ os ts s.

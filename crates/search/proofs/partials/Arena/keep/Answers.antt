@@ -2,7 +2,7 @@ use Rattle.std.proofs.Common.{rules, ◌≡◌, ℕ, ◌<◌, ◌≤◌, Some, N
 use Rattle.std.proofs.lemmas.List.{get_or_read}
 use Rattle.std.specs.HashMap.{get}
 use Rattle.std.specs.Map.{lookup, update}
-use Rattle.search.specs.Partials.{Kept, Placed, no_partial, nth, same_set}
+use Rattle.search.specs.Partials.{Placed, no_partial, nth, same_set}
 use Rattle.search.specs.declared.partials.Partial.{Partial}
 use Rattle.search.specs.declared.sets.StaySet.{StaySet}
 use Rattle.search.proofs.Places.{placed_new, placed_push, placed_set}

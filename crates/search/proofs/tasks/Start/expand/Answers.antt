@@ -1,17 +1,9 @@
-use Rattle.std.proofs.Common.{◌≡◌, ℕ, length, vec_items, sym, refl, ap, ◌∙◌, subst, arith}
-use Rattle.search.specs.Partials.{Expanded, Kept}
+use Rattle.std.proofs.Common.{ℕ, vec_items, refl, ap, ◌∙◌, subst, arith}
+use Rattle.search.specs.Partials.{Kept}
 use Rattle.search.specs.declared.partials.Partial.{Partial}
 use Rattle.search.proofs.Bits.{not_held}
-use Rattle.search.proofs.Steps.{expanded_skip, expanded_waits, expanded_more}
+use Rattle.search.proofs.Steps.{expanded_skip, expanded_more}
 use Rattle.search.proofs.tasks.Start.expand.Goals as goal
-
-pub loop-j-preserved-then-has : goal.loop-j-preserved-then-has
-loop-j-preserved-then-has c =
-    let a = c.args.a in
-    record {
-      layer = c.loop-j.invariant.layer;
-      expanded = expanded_skip c.args.self.task.ring.ticks c.args.self.task.pace.p c.args.self.task.pace.q c.args.self.task.stays.now c.args.arena.now.layer a.set a.end c.args.soon c.loop-j.j (vec_items c.args.arena.now.partials) (vec_items c.loop-j.arena.partials) c.loop-j.invariant.expanded (λ z. omega (arith, z, c.if-has.ensures.0 refl));
-    }
 
 -- No stay that is left ends past the room.
 pub loop-j-preserved-in_default : goal.loop-j-preserved-in_default
@@ -27,17 +19,6 @@ loop-j-preserved-in_default c =
       layer = c.loop-j.invariant.layer;
       expanded = expanded_skip C p q l c.args.arena.now.layer a.set a.end c.args.soon j old (vec_items c.loop-j.arena.partials) c.loop-j.invariant.expanded
           (λ z. let r = c.requires.alive.each j c.loop-j-test.true z in omega (arith, r.3, c.in_default.ensures r.0 r.1.holds r.1.after));
-    }
-
-pub loop-j-preserved-then-waits : goal.loop-j-preserved-then-waits
-loop-j-preserved-then-waits c =
-    let a = c.args.a in
-    let put = c.in-Some.put in
-    let f = c.in-Some.ensures in
-    let w = c.if-waits.ensures.0 refl in
-    record {
-      layer = c.loop-j.invariant.layer;
-      expanded = expanded_waits c.args.self.task.ring.ticks c.args.self.task.pace.p c.args.self.task.pace.q c.args.self.task.stays.now c.args.arena.now.layer a.set a.end c.args.soon c.loop-j.j (vec_items c.args.arena.now.partials) (vec_items c.loop-j.arena.partials) put.time c.loop-j.invariant.expanded f.next (w.0, omega (arith, w.1, f.ends));
     }
 
 pub loop-j-preserved : goal.loop-j-preserved
@@ -59,16 +40,3 @@ loop-j-preserved c =
       layer = c.keep.ensures.layer ∙ c.loop-j.invariant.layer;
       expanded = expanded_more C p q l c.args.arena.now.layer a.set a.end c.args.soon j old (vec_items c.loop-j.arena.partials) (vec_items c.keep.new.self.partials) b put.time c.loop-j.invariant.expanded (omega arith) z (ap (λ (v : Partial). v.set) c.requires.place.1) (ap (λ (v : Partial). v.end) c.requires.place.1) c.requires.place.0 refl refl (c.with.ensures.joined (omega (arith, c.args.self.task.few))) f.next f.ends (subst K c.loop-j.invariant.layer c.in_ok-keep.ensures.kept);
     }
-
-pub returns-clause-expanded : goal.returns-clause-expanded
-returns-clause-expanded c =
-    let C = c.args.self.task.ring.ticks in
-    let p = c.args.self.task.pace.p in
-    let q = c.args.self.task.pace.q in
-    let l = c.args.self.task.stays.now in
-    let old = vec_items c.args.arena.now.partials in
-    let new = vec_items c.loop-j.arena.partials in
-    let a = c.args.a in
-    let n : c.loop-j.j ≡ length l = omega arith in
-    let N : ℕ → Type 0 = λ k. Expanded C p q l c.args.arena.now.layer a.set a.end c.args.soon k old new in
-    subst N n c.loop-j.invariant.expanded

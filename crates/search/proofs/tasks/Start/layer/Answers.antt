@@ -1,31 +1,11 @@
 use Rattle.std.proofs.Common.{◌≡◌, ℕ, ◌+◌, ◌<◌, List, length, vec_items, sym, ap, ◌∙◌, subst, arith}
 use Rattle.std.proofs.lemmas.List.{get_or_read}
-use Rattle.search.specs.Partials.{Dead, Expanded, Layered, Looked, Soonest, Sound, no_partial, nth}
+use Rattle.search.specs.Partials.{Dead, Expanded, Layered, Looked, Soonest, no_partial, nth}
 use Rattle.search.specs.declared.partials.Arena.{Arena}
 use Rattle.search.specs.declared.partials.Partial.{Partial}
 use Rattle.search.proofs.Growing.{layered_more, layered_dead, layered_all}
 use Rattle.search.proofs.tasks.Start.layer.Goals as goal
 use Rattle.search.proofs.tasks.Start.layer.Goals.{in-Some+in_ok-expand, in_default}
-
-pub expand-requires : goal.expand-requires
-expand-requires c =
-    let C = c.args.self.task.ring.ticks in
-    let p = c.args.self.task.pace.p in
-    let q = c.args.self.task.pace.q in
-    let l = c.args.self.task.stays.now in
-    let old = vec_items c.begin_layer.new.self.partials in
-    let mid = vec_items c.loop-i.arena.partials in
-    let i = c.loop-i.i in
-    let a = c.index-a.result.now in
-    let y = c.loop-i.invariant.made in
-    let n : c.loop-i.arena.layer ≡ length old = omega (arith, c.loop-i.invariant.layer, c.begin_layer.ensures.layer, ap length c.begin_layer.ensures.same) in
-    let is : a ≡ nth mid i = get_or_read mid i a (omega (arith, y.long)) c.index-a.ensures no_partial in
-    let S : ℕ → Type 0 = λ h. Sound C p q l h mid in
-    record {
-      place = (omega (arith, c.loop-i.invariant.layer), sym is);
-      sound = subst S (sym n) y.sound;
-      alive = c.in-Some.ensures;
-    }
 
 pub loop-i-preserved : goal.loop-i-preserved
 loop-i-preserved c =
