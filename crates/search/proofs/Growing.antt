@@ -1,5 +1,5 @@
 -- Layer after layer: where a partial seating can be completed, so can one of the next layer.
-use Rattle.std.proofs.Common.{◌≡◌, ℕ, ◌+◌, ◌<◌, ◌≤◌, List, [], ◌∷◌, length, get_or, sym, refl, ap, ◌∙◌, subst, inl, inr, arith}
+use Rattle.std.proofs.Common.{◌≡◌, ℕ, ◌+◌, ◌<◌, ◌≤◌, List, ◌∷◌, length, get_or, sym, refl, ap, ◌∙◌, subst, inl, inr, arith}
 use native.Mathlib.Decide.{dec_lt}
 use Rattle.placement.specs.Stays.{no_stay}
 use Rattle.placement.specs.declared.stays.Stay.{Stay}
@@ -95,11 +95,6 @@ module _ (C p q : ℕ) (l : List Stay) (room : ℕ) where
 
   pub sound_parent : (hi : ℕ) (ps : List Partial) → Sound C p q l hi ps → (x : ℕ) → x < length ps → 0 < x → (nth ps x).parent < x
   sound_parent hi ps so x b z = elim (so x b) [ inl e ↦ absurd (omega arith) | inr r ↦ r.0 ]
-
-  -- One partial seating is the layer of one stay.
-  pub grown_first : (b : Partial) → Grown C p q l room 1 0 (b ∷ []) (b ∷ [])
-  grown_first b =
-      record { some = omega arith; sound = λ x h. inl (omega arith); first = refl; any = λ g. (0, omega arith, omega arith, g) }
 
   -- One more layer.
   pub grown_more : (k lo hi : ℕ) (old mid new : List Partial) → k < length l → hi ≡ length mid → Grown C p q l room k lo old mid → Layered C p q l room lo (length mid) mid new → Grown C p q l room (k + 1) hi old new

@@ -76,7 +76,6 @@ impl<'a> Start<'a> {
     }
 
     // Grows one partial seating by a layer for each stay more.
-    #[tactic(auto, using(crate::proofs::Growing::grown_first))]
     fn grow(self, arena: &mut Arena, root: Partial) -> Result<(), AllocError>
         ensures { OnOk result (Grown self.entry.task.ring.ticks self.entry.task.pace.p self.entry.task.pace.q self.entry.task.stays.now self.entry.room (length self.entry.task.stays.now) arena.new.layer (root ∷ []) arena.new.partials.items) }
     {
