@@ -1,6 +1,7 @@
 ghost use Rattle.std.specs.Prelude.{◌≡◌, ℕ, ◌<◌, ◌≤◌, [], ◌∷◌, length, IfOk, MatchOption, OnOk};
 ghost use Rattle.placement.specs.Seatings.{plan};
 ghost use Rattle.search.specs.Partials.{Expanded, Full, Grown, Layered, Looked, Reads, Root, Soonest, Sound, nth};
+ghost use Rattle.search.specs.Tasks.{of_task};
 ghost use Rattle.search.specs.Searches.{FromStart};
 
 use crate::partials::{Arena, Partial};
@@ -13,7 +14,7 @@ impl<'a> Start<'a> {
     // The least end of a stay that is left, each at its least time; nothing where one of them would end
     // past the room.
     fn soonest(self, a: Partial) -> Option<u64>
-        ensures { Looked self.entry.task.ring.ticks self.entry.task.pace.p self.entry.task.pace.q self.entry.task.stays.now self.entry.room a.set a.end result }
+        ensures { of_task Looked self.entry.task self.entry.room a.set a.end result }
     {
         let mut best = self.room;
         for (j, stay) in self.task.stays.iter().enumerate() {
@@ -31,9 +32,9 @@ impl<'a> Start<'a> {
     #[tactic(auto, using(crate::proofs::Steps::expanded_skip, crate::proofs::Steps::expanded_waits))]
     fn expand(self, arena: &mut Arena, i: usize, a: Partial, soon: u64) -> Result<(), AllocError>
         requires place { (i < arena.old.layer) × (nth arena.old.partials.items i ≡ a) }
-        requires sound { Sound self.task.ring.ticks self.task.pace.p self.task.pace.q self.task.stays.now arena.old.layer arena.old.partials.items }
-        requires alive { Soonest self.task.ring.ticks self.task.pace.p self.task.pace.q self.task.stays.now self.room a.set a.end (length self.task.stays.now) soon }
-        ensures expanded { OnOk result (Expanded self.entry.task.ring.ticks self.entry.task.pace.p self.entry.task.pace.q self.entry.task.stays.now arena.old.layer a.set a.end soon (length self.entry.task.stays.now) arena.old.partials.items arena.new.partials.items) }
+        requires sound { of_task Sound self.task arena.old.layer arena.old.partials.items }
+        requires alive { of_task Soonest self.task self.room a.set a.end (length self.task.stays.now) soon }
+        ensures expanded { OnOk result (of_task Expanded self.entry.task arena.old.layer a.set a.end soon (length self.entry.task.stays.now) arena.old.partials.items arena.new.partials.items) }
         ensures layer { arena.new.layer ≡ arena.old.layer }
     {
         for (j, stay) in self.task.stays.iter().enumerate() {
@@ -60,8 +61,8 @@ impl<'a> Start<'a> {
 
     // The layer after the last.
     fn layer(self, arena: &mut Arena) -> Result<(), AllocError>
-        requires { Sound self.task.ring.ticks self.task.pace.p self.task.pace.q self.task.stays.now (length arena.old.partials.items) arena.old.partials.items }
-        ensures { OnOk result ((arena.new.layer ≡ length arena.old.partials.items) × Layered self.entry.task.ring.ticks self.entry.task.pace.p self.entry.task.pace.q self.entry.task.stays.now self.entry.room arena.old.layer (length arena.old.partials.items) arena.old.partials.items arena.new.partials.items) }
+        requires { of_task Sound self.task (length arena.old.partials.items) arena.old.partials.items }
+        ensures { OnOk result ((arena.new.layer ≡ length arena.old.partials.items) × of_task Layered self.entry.task self.entry.room arena.old.layer (length arena.old.partials.items) arena.old.partials.items arena.new.partials.items) }
     {
         let lo = arena.layer;
         arena.begin_layer();
@@ -77,7 +78,7 @@ impl<'a> Start<'a> {
 
     // Grows one partial seating by a layer for each stay more.
     fn grow(self, arena: &mut Arena, root: Partial) -> Result<(), AllocError>
-        ensures { OnOk result (Grown self.entry.task.ring.ticks self.entry.task.pace.p self.entry.task.pace.q self.entry.task.stays.now self.entry.room (length self.entry.task.stays.now) arena.new.layer (root ∷ []) arena.new.partials.items) }
+        ensures { OnOk result (of_task Grown self.entry.task self.entry.room (length self.entry.task.stays.now) arena.new.layer (root ∷ []) arena.new.partials.items) }
     {
         arena.restart(root)?;
         for _k in 1..self.task.stays.len() {
@@ -111,7 +112,7 @@ pub fn from_start(
     arena: &mut Arena,
     t: usize,
 ) -> Result<Option<Seating>, AllocError>
-    ensures { IfOk result (λ o. FromStart task.entry.ring.ticks task.entry.pace.p task.entry.pace.q task.entry.stays.now t o) }
+    ensures { IfOk result (λ o. of_task FromStart task.entry t o) }
 {
     if t >= task.stays.len() {
         return Ok(None);

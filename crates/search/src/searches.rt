@@ -1,5 +1,6 @@
 ghost use Rattle.std.specs.Prelude.{◌≡◌, ◌<◌, length};
 ghost use Rattle.placement.specs.Seatings.{Lawful, Seated, no_plan, plan};
+ghost use Rattle.search.specs.Tasks.{of_task};
 ghost use Rattle.search.specs.Searches.{Answers, FromAll};
 ghost use Rattle.search.specs.declared.searches.NotFound.TheVariants.{NoMemory};
 
@@ -49,7 +50,7 @@ impl From<AllocError> for NotFound {
 // The first seating found, from each start in turn.
 #[tactic(auto, using(crate::proofs::Seats::none_lawful))]
 fn from_all(heap: Global, task: Task) -> Result<Seating, NotFound>
-    ensures { FromAll task.entry.ring.ticks task.entry.pace.p task.entry.pace.q task.entry.stays.now result }
+    ensures { of_task FromAll task.entry result }
 {
     let mut arena = Arena::new(heap);
     // by index, since a start is told by its index
