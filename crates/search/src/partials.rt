@@ -69,12 +69,19 @@ impl Arena {
         self.layer = self.partials.len();
     }
 
+    // The place of the partial seating of the set in the last layer.
+    fn find(&self, set: StaySet) -> Option<usize>
+        ensures { result ≡ get same_set self.now.places set }
+    {
+        self.places.get(&set).copied()
+    }
+
     // Keeps a partial seating in the last layer, unless one of its set with an end as small is there.
     pub fn keep(&mut self, a: Partial) -> Result<(), AllocError>
         ensures kept { OnOk result (Kept self.old.partials.items self.new.partials.items self.old.layer a) }
         ensures layer { self.new.layer ≡ self.old.layer }
     {
-        if let Some(x) = self.places.get(&a.set).copied() {
+        if let Some(x) = self.find(a.set) {
             if a.end < self.partials[x].end {
                 self.partials[x] = a;
             }

@@ -11,25 +11,25 @@ use Rattle.search.proofs.partials.Arena.keep.Goals as goal
 pub index-requires : goal.index-requires
 index-requires c =
     let s = c.args.self.now in
-    let e : get same_set s.places c.args.a.set ≡ Some c.in-Some.x = cc (c.get.ensures.value, c.copied.ensures, c.in-Some.is) in
+    let e : get same_set s.places c.args.a.set ≡ Some c.in-Some.x = sym c.find.ensures ∙ c.in-Some.is in
     omega (arith, (s.placed.found c.args.a.set c.in-Some.x e).1, s.partials.ok.0)
 
 pub index_mut-requires : goal.index_mut-requires
 index_mut-requires c =
     let s = c.args.self.now in
-    let e : get same_set s.places c.args.a.set ≡ Some c.in-Some.x = cc (c.get.ensures.value, c.copied.ensures, c.in-Some.is) in
+    let e : get same_set s.places c.args.a.set ≡ Some c.in-Some.x = sym c.find.ensures ∙ c.in-Some.is in
     omega (arith, (s.placed.found c.args.a.set c.in-Some.x e).1, s.partials.ok.0)
 
 pub invariant_of-self : goal.invariant_of-self
 invariant_of-self c =
     let s = c.args.self.now in
-    let e : get same_set s.places c.args.a.set ≡ Some c.in-Some.x = cc (c.get.ensures.value, c.copied.ensures, c.in-Some.is) in
+    let e : get same_set s.places c.args.a.set ≡ Some c.in-Some.x = sym c.find.ensures ∙ c.in-Some.is in
     record { placed = placed_set (vec_items s.partials) s.layer (get same_set s.places) c.args.a c.in-Some.x s.placed e }
 
 pub returns-then-a-index-clause-kept : goal.returns-then-a-index-clause-kept
 returns-then-a-index-clause-kept c =
     let s = c.args.self.now in
-    let e : get same_set s.places c.args.a.set ≡ Some c.in-Some.x = cc (c.get.ensures.value, c.copied.ensures, c.in-Some.is) in
+    let e : get same_set s.places c.args.a.set ≡ Some c.in-Some.x = sym c.find.ensures ∙ c.in-Some.is in
     let r = s.placed.found c.args.a.set c.in-Some.x e in
     let is : c.index.result.now ≡ nth (vec_items s.partials) c.in-Some.x = get_or_read (vec_items s.partials) c.in-Some.x c.index.result.now r.1 c.index.ensures no_partial in
     let P : Partial → Type 0 = λ v. c.args.a.end < v.end in
@@ -38,7 +38,7 @@ returns-then-a-index-clause-kept c =
 pub returns-else-a-index-clause-kept : goal.returns-else-a-index-clause-kept
 returns-else-a-index-clause-kept c =
     let s = c.args.self.now in
-    let e : get same_set s.places c.args.a.set ≡ Some c.in-Some.x = cc (c.get.ensures.value, c.copied.ensures, c.in-Some.is) in
+    let e : get same_set s.places c.args.a.set ≡ Some c.in-Some.x = sym c.find.ensures ∙ c.in-Some.is in
     let r = s.placed.found c.args.a.set c.in-Some.x e in
     let is : c.index.result.now ≡ nth (vec_items s.partials) c.in-Some.x = get_or_read (vec_items s.partials) c.in-Some.x c.index.result.now r.1 c.index.ensures no_partial in
     let P : Partial → Type 0 = λ v. v.end ≤ c.args.a.end in
@@ -56,7 +56,7 @@ pub invariant_of-self-2 : goal.invariant_of-self-2
 invariant_of-self-2 c =
     let s = c.args.self.now in
     let ps = vec_items s.partials in
-    let none : get same_set s.places c.args.a.set ≡ None = cc (c.get.ensures.value, c.copied.ensures, c.in_default.is) in
+    let none : get same_set s.places c.args.a.set ≡ None = sym c.find.ensures ∙ c.in_default.is in
     let ok : IsOk c.push.result = search rules in
     let items : vec_items c.push.new.self ≡ ps ++ c.args.a ∷ [] = (rw ok at c.push.ensures.items) ∙ ap (λ v. v ++ c.args.a ∷ []) c.in_ok-reserve.ensures.items in
     let n : c.len.result ≡ length ps = omega (arith, c.len.ensures, ap length c.in_ok-reserve.ensures.items, c.reserve.new.self.ok.0) in
@@ -67,6 +67,6 @@ invariant_of-self-2 c =
 pub returns-clause-kept : goal.returns-clause-kept
 returns-clause-kept c =
     let s = c.args.self.now in
-    let none : get same_set s.places c.args.a.set ≡ None = cc (c.get.ensures.value, c.copied.ensures, c.in_default.is) in
+    let none : get same_set s.places c.args.a.set ≡ None = sym c.find.ensures ∙ c.in_default.is in
     let ok : IsOk c.push.result = search rules in
     inl ((rw ok at c.push.ensures.items) ∙ ap (λ v. v ++ c.args.a ∷ []) c.in_ok-reserve.ensures.items, placed_new (vec_items s.partials) s.layer (get same_set s.places) c.args.a.set s.placed none)
