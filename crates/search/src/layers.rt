@@ -81,6 +81,7 @@ impl<'a> Start<'a> {
         ensures { OnOk result (of_task Grown self.entry.task self.entry.room (length self.entry.task.stays.now) arena.new.layer (root ∷ []) arena.new.partials.items) }
     {
         arena.restart(root)?;
+        // the proof counts the stays seated by _k
         for _k in 1..self.task.stays.len() {
             self.layer(arena)?;
         }

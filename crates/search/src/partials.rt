@@ -93,6 +93,7 @@ impl Arena {
         self.partials.push(a).unwrap();
         Ok(())
     }
+
     // The first of the last layer that seats all n stays and ends within the room.
     pub fn find_full(&self, n: usize, room: u64) -> Option<usize>
         ensures { MatchOption result ((x : ℕ) → self.now.layer ≤ x → x < length self.now.partials.items → Full n room (nth self.now.partials.items x) → ⊥) (λ x. (x < length self.now.partials.items) × Full n room (nth self.now.partials.items x)) }
@@ -110,6 +111,7 @@ impl Arena {
         let mut order = Vec::new(heap);
         let mut times = Vec::new(heap);
         let mut i = at;
+        // by hand: that a chain of std along the places ends cannot be proved
         loop {
             let a = partials[i];
             order.push(a.last)?;
