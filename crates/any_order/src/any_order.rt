@@ -6,7 +6,7 @@ ghost use Rattle.any_order.specs.Granting.{any_order_rules};
 
 use placement::{Seating, Stay};
 use ring::{Pace, Ring};
-use search::{Searched, search};
+use search::{NotFound, search};
 use seaters::{Outcome, Seater};
 use std::alloc::{AllocError, Global};
 
@@ -43,14 +43,14 @@ impl Seater for AnyOrder {
         if stays.len() > 12 {
             return Ok(Outcome::NotTaken);
         }
-        match search(heap, ring, pace, stays)? {
-            Searched::TooMany => Ok(Outcome::NotTaken),
-            Searched::OutOfBounds => Ok(Outcome::NotTaken),
-            Searched::Fails => Ok(Outcome::NoneGranted),
-            Searched::Seats(seating) => {
+        match search(heap, ring, pace, stays) {
+            Ok(seating) => {
                 *place = seating;
                 Ok(Outcome::Seated)
             }
+            Err(NotFound::TooMany | NotFound::OutOfBounds) => Ok(Outcome::NotTaken),
+            Err(NotFound::NoneLawful) => Ok(Outcome::NoneGranted),
+            Err(NotFound::NoMemory) => Err(AllocError),
         }
     }
 }

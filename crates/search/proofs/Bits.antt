@@ -1,9 +1,7 @@
 -- The bits of a set.
-use Rattle.std.proofs.Common.{◌≡◌, ℕ, zero, suc, ◌+◌, ◌-◌, ◌/◌, ◌%◌, ◌^◌, ◌<◌, ◌≤◌, true, false, ◌⊎◌, sym, refl, ap, ◌∙◌, subst, inl, inr, pow-suc, arith}
-use native.Mathlib.Nat.{div-eq_of_lt, div_self}
-use lib.Bits.{bit_or}
-use Rattle.std.proofs.lemmas.Nat.{pow_pos, pow-add, pow_below, shl-shr, or_shr, or_mod}
-use Rattle.std.proofs.lemmas.Bool.{eq-eqb, ne_eqb, cases_eq, cases_order}
+use Rattle.std.proofs.Common.{◌≡◌, ℕ, ◌+◌, ◌*◌, ◌%◌, ◌^◌, ◌<◌, true, false, ◌⊎◌, bit_or, w64, sym, refl, ◌∙◌, subst, inl, inr, arith}
+use Rattle.std.proofs.lemmas.Nat.Bits.{bit_at_set_same, bit_at_set_other}
+use Rattle.std.proofs.lemmas.Bool.{eq-eqb, ne_eqb, cases_eq}
 use Rattle.search.specs.Sets.{held, In, Joined}
 use Rattle.search.specs.Roads.{one}
 use Rattle.search.specs.declared.sets.StaySet.{StaySet}
@@ -19,53 +17,16 @@ one_other x j n = rw (ne_eqb x j n) refl
 pub one_cases : (x j : ℕ) → ((x ≡ j) × (one x j ≡ 1)) ⊎ ((x ≡ j → ⊥) × (one x j ≡ 0))
 one_cases x j = elim (cases_eq x j) [ inl e ↦ inl (e, one_same x j e) | inr n ↦ inr (n, one_other x j n) ]
 
--- The bits of a power of two.
-bit_only : (i j : ℕ) → 2 ^ i / 2 ^ j % 2 ≡ one i j
-bit_only i j = elim (cases_order i j) [
-  | inl e ↦ let P : ℕ → Type 0 = λ k. 2 ^ i / 2 ^ k % 2 ≡ one i k in subst P e (rw (div_self (pow_pos i)) (sym (one_same i i refl)))
-  | inr (inl l) ↦ rw (div-eq_of_lt (pow_below i j l)) (sym (one_other i j (omega arith)))
-  | inr (inr l) ↦
-      let e : suc (i - j - 1) + j ≡ i = omega arith in
-      let b : 2 ^ (suc (i - j - 1) + j) / 2 ^ j % 2 ≡ 0 = rw (pow-add 2 (suc (i - j - 1)) j, shl-shr (2 ^ suc (i - j - 1)) j) (omega (arith, pow-suc 2 (i - j - 1))) in
-      let P : ℕ → Type 0 = λ k. 2 ^ k / 2 ^ j % 2 ≡ 0 in
-      subst P e b ∙ sym (one_other i j (omega arith))
+-- The bit of i set.
+pub joined : (m i : ℕ) → i < 64 → Joined (record { bits = m }) i (record { bits = bit_or m (1 * 2 ^ i % 2 ^ 64) })
+joined m i h = λ j. elim (cases_eq j i) [
+  | inl e ↦
+      let P : ℕ → Type 0 = λ k. In (record { bits = bit_or m (1 * 2 ^ i % 2 ^ 64) }) k in
+      ((λ _. inr e), λ _. subst P (sym e) (bit_at_set_same w64 m i h))
+  | inr n ↦
+      let s = bit_at_set_other w64 m i h j n in
+      ((λ k. inl (sym s ∙ k)), λ k. elim k [ inl w ↦ s ∙ w | inr e ↦ absurd (n e) ])
 ]
-
--- A number below 2^64 has no bit at 64 or above.
-pub past_none : (m j : ℕ) → m < 2 ^ 64 → 64 ≤ j → m / 2 ^ j % 2 ≡ 1 → ⊥
-past_none m j h l e =
-    let p : 2 ^ 64 ≤ 2 ^ j = elim (cases_eq 64 j) [ inl k ↦ let P : ℕ → Type 0 = λ n. 2 ^ 64 ≤ 2 ^ n in subst P k (omega arith) | inr k ↦ omega (arith, pow_below 64 j (omega arith)) ] in
-    let z : m / 2 ^ j ≡ 0 = div-eq_of_lt (omega arith) in
-    omega arith
-
--- A bit added: max of the two.
-or_bit : (m i j : ℕ) → bit_or m (2 ^ i) / 2 ^ j % 2 ≡ bit_or (m / 2 ^ j % 2) (one i j)
-or_bit m i j =
-    let a : bit_or m (2 ^ i) / 2 ^ j ≡ bit_or (m / 2 ^ j) (2 ^ i / 2 ^ j) = or_shr m (2 ^ i) j in
-    let b : bit_or (m / 2 ^ j) (2 ^ i / 2 ^ j) % 2 ≡ bit_or (m / 2 ^ j % 2) (2 ^ i / 2 ^ j % 2) = or_mod (m / 2 ^ j) (2 ^ i / 2 ^ j) 1 in
-    ap (λ n. n % 2) a ∙ b ∙ ap (λ n. bit_or (m / 2 ^ j % 2) n) (bit_only i j)
-
-or_two : (a b : ℕ) → a < 2 → ((b ≡ 0) × (bit_or a b ≡ a)) ⊎ ((b ≡ 1) × (bit_or a b ≡ 1)) ⊎ (2 ≤ b)
-or_two zero zero h = inl (refl, refl)
-or_two zero (suc zero) h = inr (inl (refl, refl))
-or_two zero (suc (suc b)) h = inr (inr (omega arith))
-or_two (suc zero) zero h = inl (refl, refl)
-or_two (suc zero) (suc zero) h = inr (inl (refl, refl))
-or_two (suc zero) (suc (suc b)) h = inr (inr (omega arith))
-or_two (suc (suc a)) b h = absurd (omega arith)
-
-pub joined : (m i : ℕ) → Joined (record { bits = m }) i (record { bits = bit_or m (2 ^ i) })
-joined m i = λ j.
-    let e = or_bit m i j in
-    let t = or_two (m / 2 ^ j % 2) (one i j) (omega arith) in
-    elim (one_cases i j) [
-      | inl k ↦ elim t [ inl w ↦ absurd (omega (arith, w.0, k.1)) | inr (inl w) ↦ ((λ h. inr (sym k.0)), λ h. e ∙ w.1) | inr (inr w) ↦ absurd (omega (arith, w, k.1)) ]
-      | inr k ↦ elim t [
-        | inl w ↦ ((λ h. inl (sym w.1 ∙ sym e ∙ h)), λ h. elim h [ inl n ↦ e ∙ w.1 ∙ n | inr n ↦ absurd (k.0 (sym n)) ])
-        | inr (inl w) ↦ absurd (omega (arith, w.0, k.1))
-        | inr (inr w) ↦ absurd (omega (arith, w, k.1))
-      ]
-    ]
 
 pub free : (m : StaySet) (j : ℕ) → (In m j → ⊥) → held m j ≡ 0
 free m j f = elim (cases_eq (held m j) 1) [ inl e ↦ absurd (f e) | inr n ↦ omega (arith, n) ]

@@ -1,5 +1,6 @@
 -- The least end of the stays that are left, stay by stay.
-use Rattle.std.proofs.Common.{◌≡◌, ℕ, ◌+◌, ◌<◌, ◌≤◌, ◌⊎◌, List, get_or, sym, ◌∙◌, subst, inl, inr, arith}
+use Rattle.std.proofs.Common.{◌≡◌, ℕ, ◌+◌, ◌<◌, ◌≤◌, ◌⊎◌, List, get_or, min, sym, ◌∙◌, subst, inl, inr, arith}
+use native.Mathlib.Decide.{dec_lt}
 use Rattle.std.proofs.lemmas.Bool.{cases_eq}
 use Rattle.placement.specs.Stays.{no_stay}
 use Rattle.placement.specs.declared.stays.Stay.{Stay}
@@ -9,11 +10,12 @@ use Rattle.search.specs.Partials.{Soonest}
 use Rattle.search.specs.declared.sets.StaySet.{StaySet}
 
 module _ (C p q : ℕ) (l : List Stay) (room : ℕ) (m : StaySet) (e j : ℕ) where
-  -- A stay that is left, and ends at f: the less of the two ends is the least.
-  pub soonest_more : (b b' y f : ℕ) → Soonest C p q l room m e j b → held m j ≡ 0 → Fitted C p q room e (get_or l j no_stay) y f → ((f < b) × (b' ≡ f)) ⊎ ((b ≤ f) × (b' ≡ b)) → Soonest C p q l room m e (j + 1) b'
-  soonest_more b b' y f s z t c =
-      let less : b' ≤ b = elim c [ inl w ↦ omega (arith, w.0, w.1) | inr w ↦ omega (arith, w.1) ] in
-      let here : b' ≤ f = elim c [ inl w ↦ omega (arith, w.1) | inr w ↦ omega (arith, w.0, w.1) ] in
+  -- A stay that is left, and ends at f.
+  pub soonest_more : (b b' y f : ℕ) → Soonest C p q l room m e j b → held m j ≡ 0 → Fitted C p q room e (get_or l j no_stay) y f → b' ≡ min b f → Soonest C p q l room m e (j + 1) b'
+  soonest_more b b' y f s z t is =
+      let c : ((f < b) × (b' ≡ f)) ⊎ ((b ≤ f) × (b' ≡ b)) = elim (dec_lt f b) [ yes k ↦ inl (k, omega arith) | no k ↦ inr (omega arith, omega arith) ] in
+      let less : b' ≤ b = omega arith in
+      let here : b' ≤ f = omega arith in
       record {
         each = λ i h zi. elim (cases_eq i j) [
           | inl k ↦

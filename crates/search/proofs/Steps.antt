@@ -16,15 +16,15 @@ module _ (old new : List Partial) (lo : ℕ) (a : Partial) (h : lo ≤ length ol
   nth_left x b = get_or_append_left old (a ∷ []) no_partial x b
 
   kept_long : Kept old new lo a → length old ≤ length new
-  kept_long (inl e) = rw (e, length_push old a) (omega arith)
+  kept_long (inl (e, _)) = rw (e, length_push old a) (omega arith)
   kept_long (inr w) = elim w.4 [ inl k ↦ rw k.0 (omega arith) | inr k ↦ rw (k.0, length-set old w.0 a) (omega arith) ]
 
   kept_front : Kept old new lo a → (x : ℕ) → x < lo → nth new x ≡ nth old x
-  kept_front (inl e) x b = rw e (nth_left x (omega arith))
+  kept_front (inl (e, _)) x b = rw e (nth_left x (omega arith))
   kept_front (inr w) x b = elim w.4 [ inl k ↦ rw k.0 refl | inr k ↦ rw k.0 (get_or-set_other old w.0 x a no_partial (omega (arith, w.1))) ]
 
   kept_covers : Kept old new lo a → (m : StaySet) (e : ℕ) → Covered old lo m e → Covered new lo m e
-  kept_covers (inl k) m e v =
+  kept_covers (inl (k, _)) m e v =
       let n = nth_left v.0 v.2 in
       let P : List Partial → Type 0 = λ z. Covered z lo m e in
       subst P (sym k) (v.0, v.1, rw (length_push old a) (omega (arith, v.2)), rw n v.3, rw n v.4)
@@ -45,7 +45,7 @@ module _ (old new : List Partial) (lo : ℕ) (a : Partial) (h : lo ≤ length ol
   ]
 
   kept_new : Kept old new lo a → Covered new lo a.set a.end
-  kept_new (inl k) =
+  kept_new (inl (k, _)) =
       let P : List Partial → Type 0 = λ z. Covered z lo a.set a.end in
       let s = get_or_push old a no_partial (length old) refl in
       subst P (sym k) (length old, h, rw (length_push old a) (omega arith), rw s refl, rw s (omega arith))
@@ -84,7 +84,7 @@ kept_sound C p q l old new lo a h so b s k = cases k
     here y g e = inr (linked_new C p q l lo old new F y a e (omega arith, b, s))
 
     cases : Kept old new lo a → Sound C p q l lo new
-    cases (inl e) = λ y ly.
+    cases (inl (e, _)) = λ y ly.
         let ly' : y < length (old ++ a ∷ []) = rw e at ly in
         let n : y < length old + 1 = rw (length_push old a) at ly' in
         elim (dec_lt y (length old)) [

@@ -1,4 +1,5 @@
 pub mod Sets
 pub mod Roads
 pub mod Partials
+pub mod Tasks
 pub mod Searches

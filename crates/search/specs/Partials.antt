@@ -1,5 +1,5 @@
 -- Partial seatings, kept in a list layer after layer: those of one stay more come behind.
-use Rattle.std.specs.Prelude.{◌≡◌, ℕ, ◌+◌, ◌<◌, ◌≤◌, ◌⊎◌, List, [], ◌∷◌, ◌++◌, length, get_or, Some, None, Option, slice_index_or, slice_set}
+use Rattle.std.specs.Prelude.{◌≡◌, ◌==◌, ℕ, Bool, ◌+◌, ◌<◌, ◌≤◌, ◌⊎◌, List, [], ◌∷◌, ◌++◌, length, get_or, Some, None, Option, slice_index_or, slice_set}
 use Rattle.placement.specs.Windows.{Holds}
 use Rattle.placement.specs.Stays.{no_stay}
 use Rattle.placement.specs.declared.stays.Stay.{Stay}
@@ -49,11 +49,23 @@ Looked C p q l room m e (Some b) = Soonest C p q l room m e (length l) b
 abbrev pub Covered : List Partial → ℕ → StaySet → ℕ → Type 0
 Covered ps lo m e = (x : ℕ) × (lo ≤ x) × (x < length ps) × ((nth ps x).set ≡ m) × ((nth ps x).end ≤ e)
 
--- The partial seating a was kept from the place lo on: it came to the end, or in the place of one of
--- its set that ends later, or it was left out for one of its set that ends no later.
+-- Whether two sets are the same.
+abbrev pub same_set : StaySet → StaySet → Bool
+same_set a b = a.bits == b.bits
+
+-- Each partial seating from the place lo on is found by its set, and nothing else is. So no two of
+-- them have the same set.
+pub record Placed (ps : List Partial) (lo : ℕ) (place : StaySet → Option ℕ) : Type 0 where
+  pub below : lo ≤ length ps
+  pub each : (x : ℕ) → lo ≤ x → x < length ps → place (nth ps x).set ≡ Some x
+  pub found : (m : StaySet) (x : ℕ) → place m ≡ Some x → (lo ≤ x) × (x < length ps) × ((nth ps x).set ≡ m)
+
+-- The partial seating a was kept from the place lo on: it came to the end, where none had its set, or
+-- in the place of one of its set that ends later, or it was left out for one of its set that ends no
+-- later.
 abbrev pub Kept : List Partial → List Partial → ℕ → Partial → Type 0
 Kept old new lo a =
-    (new ≡ old ++ a ∷ [])
+    ((new ≡ old ++ a ∷ []) × ((x : ℕ) → lo ≤ x → x < length old → (nth old x).set ≡ a.set → ⊥))
     ⊎ ((x : ℕ) × (lo ≤ x) × (x < length old) × ((nth old x).set ≡ a.set)
     × (((new ≡ old) × ((nth old x).end ≤ a.end)) ⊎ ((new ≡ slice_set old x a) × (a.end < (nth old x).end))))
 

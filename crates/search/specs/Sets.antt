@@ -1,10 +1,11 @@
 -- Sets of stays, by their index in the list.
-use Rattle.std.specs.Prelude.{◌≡◌, ℕ, ◌/◌, ◌%◌, ◌^◌, ◌⊎◌}
+use Rattle.std.specs.Prelude.{◌≡◌, ℕ, ◌⊎◌}
+use Rattle.std.specs.Int.{bit_at}
 use Rattle.search.specs.declared.sets.StaySet.{StaySet}
 
 -- 1 where the set has the index j, else 0.
 abbrev pub held : StaySet → ℕ → ℕ
-held s j = s.bits / 2 ^ j % 2
+held s j = bit_at s.bits j
 
 -- The set has the index j.
 abbrev pub In : StaySet → ℕ → Type 0

@@ -1,150 +1,100 @@
-ghost use Rattle.std.specs.Prelude.{ℕ, ◌<◌, ◌≤◌, length, IfOk, MatchOption, OnOk};
-ghost use Rattle.placement.specs.Arcs.{InBounds};
+ghost use Rattle.std.specs.Prelude.{◌≡◌, ℕ, ◌<◌, ◌≤◌, [], ◌∷◌, length, IfOk, MatchOption, OnOk};
 ghost use Rattle.placement.specs.Seatings.{plan};
 ghost use Rattle.search.specs.Partials.{Expanded, Full, Grown, Layered, Looked, Reads, Root, Soonest, Sound, nth};
+ghost use Rattle.search.specs.Tasks.{of_task};
 ghost use Rattle.search.specs.Searches.{FromStart};
 
 use crate::partials::{Arena, Partial};
-use crate::puts::{put_after, put_first, room_of, waits};
 use crate::sets::StaySet;
-use crate::tasks::Task;
+use crate::tasks::{Start, Task};
 use placement::{Seating, Stay};
-use ring::Pace;
 use std::alloc::{AllocError, Global};
 
-// The least end of a stay that is left, each at its least time; nothing where one of them would end
-// past the room.
-fn soonest(task: Task, room: u64, a: Partial) -> Option<u64>
-    ensures { Looked task.entry.ring.ticks task.entry.pace.p task.entry.pace.q task.entry.stays.now room a.set a.end result }
-{
-    let mut best = room;
-    for j in 0..task.stays.len() {
-        if a.set.has(j) {
-            continue;
+impl<'a> Start<'a> {
+    // The least end of a stay that is left, each at its least time; nothing where one of them would end
+    // past the room.
+    fn soonest(self, a: Partial) -> Option<u64>
+        ensures { of_task Looked self.entry.task self.entry.room a.set a.end result }
+    {
+        let mut best = self.room;
+        for (j, stay) in self.task.stays.iter().enumerate() {
+            if a.set.has(j) {
+                continue;
+            }
+            let put = self.put_after(stay, a.end)?;
+            best = best.min(put.end);
         }
-        let put = put_after(task.ring, task.pace, &task.stays[j], a.end, room)?;
-        if put.end < best {
-            best = put.end;
-        }
+        Some(best)
     }
-    Some(best)
-}
 
-// Puts each stay that is left after the partial seating at `i`, at its least time, unless one that
-// ends at `soon` fits before it. The next layer begins at `hi`.
-fn expand(
-    task: Task,
-    room: u64,
-    arena: &mut Arena,
-    hi: usize,
-    i: usize,
-    soon: u64,
-) -> Result<(), AllocError>
-    requires place { (i < hi) × (hi ≤ length arena.old.partials.items) }
-    requires sound { Sound task.ring.ticks task.pace.p task.pace.q task.stays.now hi arena.old.partials.items }
-    requires alive { Soonest task.ring.ticks task.pace.p task.pace.q task.stays.now room (nth arena.old.partials.items i).set (nth arena.old.partials.items i).end (length task.stays.now) soon }
-    ensures { OnOk result (Expanded task.entry.ring.ticks task.entry.pace.p task.entry.pace.q task.entry.stays.now hi (nth arena.old.partials.items i).set (nth arena.old.partials.items i).end soon (length task.entry.stays.now) arena.old.partials.items arena.new.partials.items) }
-{
-    let a = arena.partials[i];
-    for j in 0..task.stays.len() {
-        if a.set.has(j) {
-            continue;
+    // Puts each stay that is left after `a`, which stands at `i`, at its least time, unless one that
+    // ends at `soon` fits before it.
+    #[tactic(auto, using(crate::proofs::Steps::expanded_skip, crate::proofs::Steps::expanded_waits))]
+    fn expand(self, arena: &mut Arena, i: usize, a: Partial, soon: u64) -> Result<(), AllocError>
+        requires place { (i < arena.old.layer) × (nth arena.old.partials.items i ≡ a) }
+        requires sound { of_task Sound self.task arena.old.layer arena.old.partials.items }
+        requires alive { of_task Soonest self.task self.room a.set a.end (length self.task.stays.now) soon }
+        ensures expanded { OnOk result (of_task Expanded self.entry.task arena.old.layer a.set a.end soon (length self.entry.task.stays.now) arena.old.partials.items arena.new.partials.items) }
+        ensures layer { arena.new.layer ≡ arena.old.layer }
+    {
+        for (j, stay) in self.task.stays.iter().enumerate() {
+            if a.set.has(j) {
+                continue;
+            }
+            let Some(put) = self.put_after(stay, a.end) else {
+                continue;
+            };
+            if self.waits(stay, put, soon) {
+                continue;
+            }
+            let more = Partial {
+                set: a.set.with(j),
+                end: put.end,
+                last: j,
+                time: put.time,
+                parent: i,
+            };
+            arena.keep(more)?;
         }
-        let stay = task.stays[j];
-        let Some(put) = put_after(task.ring, task.pace, &stay, a.end, room) else {
-            continue;
-        };
-        if waits(task.pace, &stay, put, soon) {
-            continue;
+        Ok(())
+    }
+
+    // The layer after the last.
+    fn layer(self, arena: &mut Arena) -> Result<(), AllocError>
+        requires { of_task Sound self.task (length arena.old.partials.items) arena.old.partials.items }
+        ensures { OnOk result ((arena.new.layer ≡ length arena.old.partials.items) × of_task Layered self.entry.task self.entry.room arena.old.layer (length arena.old.partials.items) arena.old.partials.items arena.new.partials.items) }
+    {
+        let lo = arena.layer;
+        arena.begin_layer();
+        // by index, since the arena grows meanwhile
+        for i in lo..arena.layer {
+            let a = arena.partials[i];
+            if let Some(soon) = self.soonest(a) {
+                self.expand(arena, i, a, soon)?;
+            }
         }
-        let more = Partial {
-            set: a.set.with(j),
-            end: put.end,
-            last: j,
-            time: put.time,
-            parent: i,
-        };
-        arena.keep(hi, more)?;
+        Ok(())
     }
-    Ok(())
-}
 
-// The layer after the one that begins at `lo` and is the last.
-fn layer(
-    heap: Global,
-    task: Task,
-    room: u64,
-    arena: &mut Arena,
-    lo: usize,
-) -> Result<(), AllocError>
-    requires { Sound task.ring.ticks task.pace.p task.pace.q task.stays.now (length arena.old.partials.items) arena.old.partials.items }
-    ensures { OnOk result (Layered task.entry.ring.ticks task.entry.pace.p task.entry.pace.q task.entry.stays.now room lo (length arena.old.partials.items) arena.old.partials.items arena.new.partials.items) }
-{
-    let hi = arena.partials.len();
-    let count = hi.saturating_sub(lo).saturating_mul(task.stays.len());
-    arena.widen(heap, count)?;
-    for i in lo..hi {
-        let a = arena.partials[i];
-        if let Some(soon) = soonest(task, room, a) {
-            expand(task, room, arena, hi, i, soon)?;
+    // Grows one partial seating by a layer for each stay more.
+    fn grow(self, arena: &mut Arena, root: Partial) -> Result<(), AllocError>
+        ensures { OnOk result (of_task Grown self.entry.task self.entry.room (length self.entry.task.stays.now) arena.new.layer (root ∷ []) arena.new.partials.items) }
+    {
+        arena.restart(root)?;
+        // the proof counts the stays seated by _k
+        for _k in 1..self.task.stays.len() {
+            self.layer(arena)?;
         }
+        Ok(())
     }
-    Ok(())
-}
-
-// Grows one partial seating by a layer for each stay more; where the last layer begins.
-fn grow(heap: Global, task: Task, room: u64, arena: &mut Arena) -> Result<usize, AllocError>
-    requires { (0 < length arena.old.partials.items) × ((Sound task.ring.ticks task.pace.p task.pace.q task.stays.now (length arena.old.partials.items) arena.old.partials.items) × (0 < length task.stays.now)) }
-    ensures { IfOk result (λ lo. Grown task.entry.ring.ticks task.entry.pace.p task.entry.pace.q task.entry.stays.now room (length task.entry.stays.now) lo arena.old.partials.items arena.new.partials.items) }
-{
-    let mut lo = 0;
-    for _k in 1..task.stays.len() {
-        let hi = arena.partials.len();
-        layer(heap, task, room, arena, lo)?;
-        lo = hi;
-    }
-    Ok(lo)
-}
-
-// The first partial seating, from `lo` on, of all n stays that ends within the room.
-fn find_full(partials: &[Partial], n: usize, lo: usize, room: u64) -> Option<usize>
-    ensures { MatchOption result ((x : ℕ) → lo ≤ x → x < length partials.now → Full n room (nth partials.now x) → ⊥) (λ x. (x < length partials.now) × Full n room (nth partials.now x)) }
-{
-    for i in lo..partials.len() {
-        let a = partials[i];
-        if a.end <= room && a.set.has_all(n) {
-            return Some(i);
-        }
-    }
-    None
-}
-
-// The seating at the place `at`, from its first stay on.
-fn read_back(heap: Global, partials: &[Partial], at: usize) -> Result<Seating, AllocError>
-    requires { (at < length partials.now) × (((x : ℕ) → x < length partials.now → 0 < x → (nth partials.now x).parent < x)) }
-    ensures { IfOk result (λ s. Reads partials.now at (plan s).order (plan s).times) }
-{
-    let mut order = Vec::new(heap);
-    let mut times = Vec::new(heap);
-    let mut i = at;
-    while i != 0 {
-        order.push(partials[i].last)?;
-        times.push(partials[i].time)?;
-        i = partials[i].parent;
-    }
-    order.push(partials[0].last)?;
-    times.push(partials[0].time)?;
-    order.reverse();
-    times.reverse();
-    Ok(Seating { order, times })
 }
 
 // The partial seating of the stay `t` alone, at its window's first position.
-fn root(pace: Pace, stay: &Stay, t: usize) -> Partial
+fn root(task: Task, stay: &Stay, t: usize) -> Partial
     requires { t < 64 }
-    ensures { Root pace.p pace.q stay.now t result }
+    ensures { Root task.entry.pace.p task.entry.pace.q stay.now t result }
 {
-    let put = put_first(pace, stay);
+    let put = task.put_first(stay);
     Partial {
         set: StaySet::empty().with(t),
         end: put.end,
@@ -156,25 +106,25 @@ fn root(pace: Pace, stay: &Stay, t: usize) -> Partial
 
 // A seating that has the stay `t` first, at its window's first position. It is found wherever there
 // is one.
+#[tactic(auto, using(crate::proofs::Seats::seated_below, crate::proofs::Seats::seated_lead))]
 pub fn from_start(
     heap: Global,
     task: Task,
     arena: &mut Arena,
     t: usize,
 ) -> Result<Option<Seating>, AllocError>
-    ensures { InBounds task.entry.ring.ticks task.entry.stays.now → IfOk result (λ o. FromStart task.entry.ring.ticks task.entry.pace.p task.entry.pace.q task.entry.stays.now t o) }
+    ensures { IfOk result (λ o. of_task FromStart task.entry t o) }
 {
     if t >= task.stays.len() {
         return Ok(None);
     }
     let first = task.stays[t];
-    let Some(room) = room_of(task.ring, task.pace, &first) else {
+    let Some(room) = task.room_of(&first) else {
         return Ok(None);
     };
-    arena.restart(root(task.pace, &first, t))?;
-    let lo = grow(heap, task, room, arena)?;
-    match find_full(&arena.partials, task.stays.len(), lo, room) {
+    Start { task, room }.grow(arena, root(task, &first, t))?;
+    match arena.find_full(task.stays.len(), room) {
         None => Ok(None),
-        Some(i) => Ok(Some(read_back(heap, &arena.partials, i)?)),
+        Some(i) => Ok(Some(arena.read_back(heap, i)?)),
     }
 }

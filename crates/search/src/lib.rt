@@ -16,4 +16,4 @@ mod searches;
 mod sets;
 mod tasks;
 
-pub use searches::{Searched, search};
+pub use searches::{NotFound, search};

@@ -1,26 +1,43 @@
-ghost use Rattle.std.specs.Prelude.{◌≡◌, ◌<◌, ◌≤◌, [], ◌∷◌, length, MatchOption, OnOk};
-ghost use Rattle.search.specs.Partials.{Kept, nth};
+ghost use Rattle.std.specs.Prelude.{◌≡◌, ℕ, ◌<◌, ◌≤◌, [], ◌∷◌, length, IfOk, MatchOption, OnOk};
+ghost use Rattle.std.specs.HashMap.{get};
+ghost use Rattle.placement.specs.Seatings.{plan};
+ghost use Rattle.ring.specs.Questions.{Tells};
+ghost use Rattle.search.specs.Partials.{Full, Kept, Placed, Reads, nth, same_set};
 
 use crate::sets::StaySet;
+use placement::Seating;
 use std::alloc::{AllocError, Global};
+use std::collections::HashMap;
 
 // A seating of some of the stays: which, where the last of them ends, the last and its time, and the
-// place of the partial seating without it.
+// place of the partial seating without it; the first has none.
 #[derive(Clone, Copy)]
 pub struct Partial {
     pub set: StaySet,
     pub end: u64,
     pub last: usize,
     pub time: u64,
+    // a place, since many share it: an Rc would allocate for each, and be no plainer
     pub parent: usize,
 }
 
-// The partial seatings so far, layer after layer, and hints where that of a set may stand. A hint is
-// never trusted, so that a wrong one costs time only.
+impl Partial {
+    // Whether it seats all n stays and ends within the room.
+    pub fn is_full(&self, n: usize, room: u64) -> bool
+        ensures { Tells result (Full n room self.now) }
+    {
+        self.end <= room && self.set.has_all(n)
+    }
+}
+
+// The partial seatings so far, layer after layer, where the last layer begins, and the place of each
+// of that layer by its set.
 #[derive(Drop)]
 pub struct Arena {
     pub partials: Vec<Partial>,
-    hints: Vec<usize>,
+    pub layer: usize,
+    places: HashMap<StaySet, usize>,
+    ghost placed: { Placed partials.items layer (get same_set places) },
 }
 
 impl Arena {
@@ -29,68 +46,83 @@ impl Arena {
     {
         Arena {
             partials: Vec::new(heap),
-            hints: Vec::new(heap),
+            layer: 0,
+            places: HashMap::new(heap),
         }
     }
 
     // Begun again with one partial seating.
     pub fn restart(&mut self, root: Partial) -> Result<(), AllocError>
-        ensures { OnOk result (self.new.partials.items ≡ root ∷ []) }
+        ensures { OnOk result ((self.new.partials.items ≡ root ∷ []) × (self.new.layer ≡ 0)) }
     {
         self.partials.clear();
-        self.partials.push(root)?;
+        self.layer = 0;
+        self.places.clear();
+        self.keep(root)
+    }
+
+    pub fn begin_layer(&mut self)
+        ensures same { self.new.partials.items ≡ self.old.partials.items }
+        ensures layer { self.new.layer ≡ length self.old.partials.items }
+    {
+        self.places.clear();
+        self.layer = self.partials.len();
+    }
+
+    // The place of the partial seating of the set in the last layer.
+    fn find(&self, set: StaySet) -> Option<usize>
+        ensures { result ≡ get same_set self.now.places set }
+    {
+        self.places.get(&set).copied()
+    }
+
+    // Keeps a partial seating in the last layer, unless one of its set with an end as small is there.
+    pub fn keep(&mut self, a: Partial) -> Result<(), AllocError>
+        ensures kept { OnOk result (Kept self.old.partials.items self.new.partials.items self.old.layer a) }
+        ensures layer { self.new.layer ≡ self.old.layer }
+    {
+        if let Some(x) = self.find(a.set) {
+            if a.end < self.partials[x].end {
+                self.partials[x] = a;
+            }
+            return Ok(());
+        }
+        // room first, so that an error leaves it in neither
+        self.partials.reserve(1)?;
+        self.places.insert(a.set, self.partials.len())?;
+        self.partials.push(a).unwrap();
         Ok(())
     }
 
-    // Makes the hints at least twice as many as `count`, up to some millions.
-    pub fn widen(&mut self, heap: Global, count: usize) -> Result<(), AllocError>
-        ensures { self.new.partials.items ≡ self.old.partials.items }
+    // The first of the last layer that seats all n stays and ends within the room.
+    pub fn find_full(&self, n: usize, room: u64) -> Option<usize>
+        ensures { MatchOption result ((x : ℕ) → self.now.layer ≤ x → x < length self.now.partials.items → Full n room (nth self.now.partials.items x) → ⊥) (λ x. (x < length self.now.partials.items) × Full n room (nth self.now.partials.items x)) }
     {
-        let wanted = count.saturating_mul(2).min(4_194_304);
-        if self.hints.len() < wanted {
-            self.hints = vec![in heap; 0; wanted.saturating_mul(2)]?;
-        }
-        Ok(())
+        let partials = self.partials.as_slice();
+        (self.layer..partials.len()).find(|i| partials[*i].is_full(n, room))
     }
 
-    // The place, from `lo` on, of a partial seating of the set, as far as a hint tells. Where none does,
-    // a hint is left at the arena's end.
-    fn find(&mut self, lo: usize, set: StaySet) -> Option<usize>
-        ensures kept { self.new.partials.items ≡ self.old.partials.items }
-        ensures found { MatchOption result (⊥ → ⊥) (λ x. (lo ≤ x) × (x < length self.old.partials.items) × ((nth self.old.partials.items x).set ≡ set)) }
+    // The seating at the place `at`, from its first stay on.
+    pub fn read_back(&self, heap: Global, at: usize) -> Result<Seating, AllocError>
+        requires { (at < length self.now.partials.items) × ((x : ℕ) → x < length self.now.partials.items → 0 < x → (nth self.now.partials.items x).parent < x) }
+        ensures { IfOk result (λ s. Reads self.now.partials.items at (plan s).order (plan s).times) }
     {
-        let size = self.hints.len();
-        if size == 0 {
-            return None;
-        }
-        let first = set.mixed();
-        for k in 0..32usize {
-            let slot = first.wrapping_add(k) % size;
-            let x = self.hints[slot];
-            if x < lo || x >= self.partials.len() {
-                self.hints[slot] = self.partials.len();
-                return None;
+        let partials = self.partials.as_slice();
+        let mut order = Vec::new(heap);
+        let mut times = Vec::new(heap);
+        let mut i = at;
+        // by hand: that a chain of std along the places ends cannot be proved
+        loop {
+            let a = partials[i];
+            order.push(a.last)?;
+            times.push(a.time)?;
+            if i == 0 {
+                break;
             }
-            if self.partials[x].set == set {
-                return Some(x);
-            }
+            i = a.parent;
         }
-        None
-    }
-
-    // Keeps a partial seating from the place `lo` on, unless one of its set with an end as small is
-    // found there.
-    pub fn keep(&mut self, lo: usize, a: Partial) -> Result<(), AllocError>
-        ensures { OnOk result (Kept self.old.partials.items self.new.partials.items lo a) }
-    {
-        match self.find(lo, a.set) {
-            None => self.partials.push(a)?,
-            Some(x) => {
-                if a.end < self.partials[x].end {
-                    self.partials[x] = a;
-                }
-            }
-        }
-        Ok(())
+        order.reverse();
+        times.reverse();
+        Ok(Seating { order, times })
     }
 }

@@ -1,7 +1,8 @@
-ghost use Rattle.std.specs.Prelude.{◌≡◌, ◌<◌, length, IfOk};
-ghost use Rattle.placement.specs.Arcs.{InBounds};
+ghost use Rattle.std.specs.Prelude.{◌≡◌, ◌<◌, length};
 ghost use Rattle.placement.specs.Seatings.{Lawful, Seated, no_plan, plan};
+ghost use Rattle.search.specs.Tasks.{of_task};
 ghost use Rattle.search.specs.Searches.{Answers, FromAll};
+ghost use Rattle.search.specs.declared.searches.NotFound.TheVariants.{NoMemory};
 
 use crate::layers::from_start;
 use crate::partials::Arena;
@@ -9,39 +10,65 @@ use crate::tasks::Task;
 use placement::{Seating, Stay, all_in_bounds};
 use ring::{Pace, Ring};
 use std::alloc::{AllocError, Global};
+use std::error::Error;
+use std::fmt;
 
-// What a search answers.
-#[derive(Drop)]
-pub enum Searched {
-    // a stay of the list is out of bounds
-    OutOfBounds,
+// Why a search gives no seating.
+#[derive(Clone, Copy, PartialEq, Eq, Debug)]
+pub enum NotFound {
     // the list has more than 64 stays
     TooMany,
+    // a stay of the list is out of bounds
+    OutOfBounds,
     // the list has no lawful seating, in whatever order
-    Fails,
-    // a lawful seating
-    Seats(Seating),
+    NoneLawful,
+    // the memory did not suffice
+    NoMemory,
+}
+
+impl fmt::Display for NotFound {
+    fn fmt<W: fmt::Write>(&self, f: &mut fmt::Formatter<W>) -> fmt::Result {
+        match self {
+            NotFound::TooMany => write!(f, "more than 64 stays"),
+            NotFound::OutOfBounds => write!(f, "a stay out of bounds"),
+            NotFound::NoneLawful => write!(f, "no lawful seating"),
+            NotFound::NoMemory => write!(f, "out of memory"),
+        }
+    }
+}
+
+impl Error for NotFound {}
+
+impl From<AllocError> for NotFound {
+    ghost from_gives = { λ _ e. e ≡ NoMemory };
+
+    fn from(_e: AllocError) -> NotFound {
+        Self::NoMemory
+    }
 }
 
 // The first seating found, from each start in turn.
-fn from_all(heap: Global, task: Task) -> Result<Option<Seating>, AllocError>
-    requires { (InBounds task.ring.ticks task.stays.now) × (0 < length task.stays.now) }
-    ensures { IfOk result (λ o. FromAll task.entry.ring.ticks task.entry.pace.p task.entry.pace.q task.entry.stays.now o) }
+#[tactic(auto, using(crate::proofs::Seats::none_lawful))]
+fn from_all(heap: Global, task: Task) -> Result<Seating, NotFound>
+    ensures { of_task FromAll task.entry result }
 {
     let mut arena = Arena::new(heap);
+    // by index, since a start is told by its index
     for t in 0..task.stays.len() {
         if let Some(seating) = from_start(heap, task, &mut arena, t)? {
-            return Ok(Some(seating));
+            return Ok(seating);
         }
     }
-    Ok(None)
+    Err(NotFound::NoneLawful)
 }
 
+#[tactic(auto, using(placement::proofs::Leaving::empty_seated))]
 fn empty_is_lawful(ring: Ring, pace: Pace, stays: &[Stay])
     ensures { length stays.now ≡ 0 → Lawful ring.ticks pace.p pace.q stays.now no_plan }
 {}
 
 // Begun again at the list's first stay, a seating that keeps the rules is lawful.
+#[tactic(auto, unfolding(placement::specs::Seatings::Lawful))]
 fn begin_at_first(ring: Ring, pace: Pace, stays: &[Stay], seating: &mut Seating)
     requires { (0 < length stays.now) × (Seated ring.ticks pace.p pace.q stays.now (plan seating.old)) }
     ensures { Lawful ring.ticks pace.p pace.q stays.now (plan seating.new) }
@@ -51,25 +78,20 @@ fn begin_at_first(ring: Ring, pace: Pace, stays: &[Stay], seating: &mut Seating)
 
 // Seats a list in whatever order it can be seated. The length is asked first, then the bounds of
 // every stay, before any is seated.
-pub fn search(heap: Global, ring: Ring, pace: Pace, stays: &[Stay]) -> Result<Searched, AllocError>
-    ensures { IfOk result (λ a. Answers ring.ticks pace.p pace.q stays.now a) }
+pub fn search(heap: Global, ring: Ring, pace: Pace, stays: &[Stay]) -> Result<Seating, NotFound>
+    ensures { Answers ring.ticks pace.p pace.q stays.now result }
 {
     empty_is_lawful(ring, pace, stays);
     if stays.len() > 64 {
-        return Ok(Searched::TooMany);
+        return Err(NotFound::TooMany);
     }
     if !all_in_bounds(ring, stays) {
-        return Ok(Searched::OutOfBounds);
+        return Err(NotFound::OutOfBounds);
     }
     if stays.is_empty() {
-        return Ok(Searched::Seats(Seating::empty(heap)));
+        return Ok(Seating::empty(heap));
     }
-    let task = Task { ring, pace, stays };
-    match from_all(heap, task)? {
-        None => Ok(Searched::Fails),
-        Some(mut seating) => {
-            begin_at_first(ring, pace, stays, &mut seating);
-            Ok(Searched::Seats(seating))
-        }
-    }
+    let mut seating = from_all(heap, Task { ring, pace, stays })?;
+    begin_at_first(ring, pace, stays, &mut seating);
+    Ok(seating)
 }

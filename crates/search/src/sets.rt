@@ -1,11 +1,11 @@
-ghost use Rattle.std.specs.Prelude.{◌≡◌, ℕ, ◌*◌, ◌/◌, ◌%◌, ◌^◌, ◌<◌, ◌≤◌};
+ghost use Rattle.std.specs.Prelude.{◌≡◌, ℕ, ◌<◌, ◌≤◌};
 ghost use Rattle.ring.specs.Questions.{Tells};
 ghost use Rattle.search.specs.Sets.{In, Joined};
 
 // A set of stays, by their index in the list: one bit for each index below 64.
-#[derive(Clone, Copy, PartialEq, Eq)]
+#[derive(Clone, Copy, PartialEq, Eq, Hash)]
 pub struct StaySet {
-    bits: u64,
+    pub(crate) bits: u64,
 }
 
 impl StaySet {
@@ -23,6 +23,7 @@ impl StaySet {
     }
 
     // With one stay more. An index of 64 or more leaves the set as it is.
+    #[tactic(auto, using(crate::proofs::Bits::joined))]
     pub fn with(&self, stay: usize) -> StaySet
         ensures joined { stay < 64 → Joined self.now stay result }
         ensures same { 64 ≤ stay → result ≡ self.now }
@@ -39,18 +40,6 @@ impl StaySet {
     pub fn has_all(&self, n: usize) -> bool
         ensures { Tells result ((j : ℕ) → j < n → In self.now j) }
     {
-        for j in 0..n {
-            if !self.has(j) {
-                return false;
-            }
-        }
-        true
-    }
-
-    // A number by which to look for the set.
-    pub fn mixed(&self) -> usize
-        ensures { result ≡ self.now.bits * 11400714819323198485 % 2 ^ 64 / 2 ^ 32 }
-    {
-        (self.bits.wrapping_mul(0x9E37_79B9_7F4A_7C15) >> 32) as usize
+        (0..n).all(|j| self.has(j))
     }
 }

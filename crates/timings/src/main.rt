@@ -7,19 +7,20 @@ mod lists;
 use anyhow::anyhow;
 use leeway::leeway;
 use lists::{CASES, Case, nearly_full};
-use placement::Stay;
+use placement::{Seating, Stay};
 use ring::{Pace, Ratio, Ring};
-use search::{Searched, search};
+use search::{NotFound, search};
 use std::env;
 use std::time::Instant;
 use trials::{Tried, try_order};
 
-fn word(ring: Ring, pace: Pace, stays: &[Stay], answer: &Searched) -> &'static str {
+fn word(ring: Ring, pace: Pace, stays: &[Stay], answer: &Result<Seating, NotFound>) -> &'static str {
     match answer {
-        Searched::TooMany | Searched::OutOfBounds => "not taken",
-        Searched::Fails => "does not fit",
-        Searched::Seats(seating) if seating.lawful(ring, pace, stays) => "fits",
-        Searched::Seats(_) => "seated against the rules",
+        Ok(seating) if seating.lawful(ring, pace, stays) => "fits",
+        Ok(_) => "seated against the rules",
+        Err(NotFound::TooMany | NotFound::OutOfBounds) => "not taken",
+        Err(NotFound::NoneLawful) => "does not fit",
+        Err(NotFound::NoMemory) => "out of memory",
     }
 }
 
@@ -33,7 +34,7 @@ fn run_case(rt: &HostRuntime, times: bool, case: Case) -> anyhow::Result<()> {
     };
     let stays = case.list(rt.alloc(), ring)?;
     let start = Instant::now(rt)?;
-    let answer = search(rt.alloc(), ring, pace, &stays)?;
+    let answer = search(rt.alloc(), ring, pace, &stays);
     let took = start.elapsed(rt)?.as_micros();
     let name = case.name;
     let word = word(ring, pace, &stays, &answer);

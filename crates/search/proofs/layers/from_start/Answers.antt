@@ -1,45 +1,20 @@
-use Rattle.std.proofs.Common.{ℕ, ◌<◌, ◌≤◌, List, length, vec_items, sym, subst, arith}
-use Rattle.search.specs.Partials.{Full, Reads, nth}
-use Rattle.search.specs.declared.partials.Partial.{Partial}
-use Rattle.search.proofs.Growing.{sound_parent}
-use Rattle.search.proofs.Seats.{full_seated, none_full, seated_below, seated_lead}
+use Rattle.std.proofs.Common.{[], ◌∷◌, vec_items, refl, arith}
+use Rattle.search.proofs.Seats.{full_seated, none_full}
 use Rattle.search.proofs.layers.from_start.Goals as goal
 
-pub returns-then-t-task : goal.returns-then-t-task
-returns-then-t-task c = λ good os ts s.
-    omega (arith, seated_below c.args.task.ring.ticks c.args.task.pace.p c.args.task.pace.q c.args.task.stays.now c.args.t _ os ts s, c.if-t-task.true)
-
-pub returns-in_default : goal.returns-in_default
-returns-in_default c = λ good os ts s.
-    omega (arith, seated_lead c.args.task.ring.ticks c.args.task.pace.p c.args.task.pace.q c.args.task.stays.now c.args.t _ os ts s, c.in_default.ensures)
-
 pub returns-in-None : goal.returns-in-None
-returns-in-None c = λ good os ts s.
+returns-in-None c = λ os ts s.
     let l = c.args.task.stays.now in
     let room = c.in-Some.room in
-    let lo = c.in_ok-lo.lo in
-    let N : List Partial → Type 0 = λ ps. (x : ℕ) → lo ≤ x → x < length ps → Full (length l) room (nth ps x) → ⊥ in
-    none_full c.args.task.ring.ticks c.args.task.pace.p c.args.task.pace.q l room c.args.t lo c.root.result (vec_items c.restart.new.self.partials) (vec_items c.grow.new.arena.partials) c.in-Some.ensures c.root.ensures c.in_ok-restart.ensures c.in_ok-lo.ensures os ts (subst N c.deref.ensures.value c.in-None.ensures) s
-
-pub read_back-requires : goal.read_back-requires
-read_back-requires c =
-    let new = vec_items c.grow.new.arena.partials in
-    let i = c.in-Some-find_full.i in
-    let F : List Partial → Type 0 = λ ps. i < length ps in
-    let P : List Partial → Type 0 = λ ps. (i < length ps) × ((x : ℕ) → x < length ps → 0 < x → (nth ps x).parent < x) in
-    let below : i < length new = subst F c.deref.ensures.value c.in-Some-find_full.ensures.0 in
-    subst P (sym c.deref-in-Some-find_full.ensures.value) (below, sound_parent c.args.task.ring.ticks c.args.task.pace.p c.args.task.pace.q c.args.task.stays.now c.in-Some.room (length new) new c.in_ok-lo.ensures.sound)
+    let lo = c.grow.new.arena.layer in
+    none_full c.args.task.ring.ticks c.args.task.pace.p c.args.task.pace.q l room c.args.t lo c.root.result (c.root.result ∷ []) (vec_items c.grow.new.arena.partials) c.in-Some.ensures c.root.ensures refl c.in_ok-grow.ensures os ts c.in-None.ensures s
 
 pub returns-in_ok-read_back-in-Some-find_full : goal.returns-in_ok-read_back-in-Some-find_full
-returns-in_ok-read_back-in-Some-find_full c = λ good.
+returns-in_ok-read_back-in-Some-find_full c =
     let l = c.args.task.stays.now in
     let t = c.args.t in
     let room = c.in-Some.room in
     let i = c.in-Some-find_full.i in
     let os = vec_items c.in_ok-read_back-in-Some-find_full.field-0.order in
     let ts = vec_items c.in_ok-read_back-in-Some-find_full.field-0.times in
-    let F : List Partial → Type 0 = λ ps. (i < length ps) × Full (length l) room (nth ps i) in
-    let R : List Partial → Type 0 = λ ps. Reads ps i os ts in
-    let full = subst F c.deref.ensures.value c.in-Some-find_full.ensures in
-    let reads = subst R c.deref-in-Some-find_full.ensures.value c.in_ok-read_back-in-Some-find_full.ensures in
-    full_seated c.args.task.ring.ticks c.args.task.pace.p c.args.task.pace.q l room t c.in_ok-lo.lo c.root.result (vec_items c.restart.new.self.partials) (vec_items c.grow.new.arena.partials) c.in-Some.ensures c.root.ensures c.in_ok-restart.ensures c.in_ok-lo.ensures i os ts (omega arith) (good t (omega arith)).from full.1 reads
+    full_seated c.args.task.ring.ticks c.args.task.pace.p c.args.task.pace.q l room t c.grow.new.arena.layer c.root.result (c.root.result ∷ []) (vec_items c.grow.new.arena.partials) c.in-Some.ensures c.root.ensures refl c.in_ok-grow.ensures i os ts (omega arith) (c.args.task.good t (omega arith)).from c.in-Some-find_full.ensures.1 c.in_ok-read_back-in-Some-find_full.ensures

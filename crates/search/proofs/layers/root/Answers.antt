@@ -10,7 +10,7 @@ returns c =
     let put = c.put_first-put.result in
     let s = c.args.stay.now in
     let none = c.empty.ensures in
-    let P : ℕ → Type 0 = λ y. put.end ≡ end_of c.args.pace.p c.args.pace.q s y in
+    let P : ℕ → Type 0 = λ y. put.end ≡ end_of c.args.task.pace.p c.args.task.pace.q s y in
     record {
       only = λ j. omega (arith, joined_held m c.with.result t j (c.with.ensures.joined c.requires) (free m t (none t)), free m j (none j));
       last = refl;
