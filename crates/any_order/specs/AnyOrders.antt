@@ -1,6 +1,5 @@
 -- The seater that seats a list in any order.
 use Rattle.std.specs.Prelude.{ℕ, ◌≤◌, List, map, length, Ok, Err, Result, slice_index_or}
-use Rattle.std.specs.declared.alloc.AllocError.{AllocError}
 use Rattle.ring.specs.declared.measures.Ring.{Ring}
 use Rattle.ring.specs.declared.measures.Pace.{Pace}
 use Rattle.placement.specs.Stays.{no_stay}
@@ -8,8 +7,8 @@ use Rattle.placement.specs.Seatings.{Plan, Order, Lawful}
 use Rattle.placement.specs.Arcs.{Fits, InBounds, OnRing}
 use Rattle.placement.specs.declared.stays.Stay.{Stay}
 use Rattle.seaters.specs.Meanings.{Meaning}
-use Rattle.seaters.specs.declared.seaters.Outcome.{Outcome}
-use Rattle.seaters.specs.declared.seaters.Outcome.TheVariants.{NotTaken, NoneGranted, Seated}
+use Rattle.seaters.specs.declared.nos.NotSeated.{NotSeated}
+use Rattle.seaters.specs.declared.nos.NotSeated.TheVariants.{NotTaken, NoneGranted, NoMemory}
 
 -- At most 12 stays, each within its bounds.
 abbrev pub TakesFew : Ring → List Stay → Type 0
@@ -31,11 +30,11 @@ pub record CanFit (C p q : ℕ) (l : List Stay) : Type 0 where
   pub fit : Fits C p q l positions
 
 -- A list of at most 12 stays within bounds is seated exactly if it can fit.
-abbrev pub Decides : Ring → Pace → List Stay → Result Outcome AllocError → Type 0
-Decides c v l (Ok NotTaken) = TakesFew c l → ⊥
-Decides c v l (Ok NoneGranted) = TakesFew c l × (CanFit c.ticks v.p v.q l → ⊥)
-Decides c v l (Ok Seated) = TakesFew c l × CanFit c.ticks v.p v.q l
-Decides c v l (Err e) = Unit {0}
+abbrev pub Decides : Ring → Pace → List Stay → Result (Unit {0}) NotSeated → Type 0
+Decides c v l (Err NotTaken) = TakesFew c l → ⊥
+Decides c v l (Err NoneGranted) = TakesFew c l × (CanFit c.ticks v.p v.q l → ⊥)
+Decides c v l (Ok u) = TakesFew c l × CanFit c.ticks v.p v.q l
+Decides c v l (Err NoMemory) = Unit {0}
 
 -- A list that can fit has a lawful seating, and one that has a lawful seating can fit.
 pub record Fitting (C p q : ℕ) (l : List Stay) : Type 0 where

@@ -1,3 +1,4 @@
 pub mod AnyOrders
 pub mod Worked
 pub mod Granting
+pub mod Nos
