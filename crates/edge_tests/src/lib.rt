@@ -45,7 +45,8 @@ mod files {
         [a, b, c, d, e, f, g, h, i, j]
     }
 
-    // What a file is told to be: records read, the fault's record and number, bytes unread.
+    // What a file is told to be: records read, the fault's record and number (0 and 0 for none), bytes
+    // unread.
     fn told(heap: Global, bytes: &[u8]) -> (usize, u8, u8, usize) {
         match Listing::read(heap, bytes) {
             Err(fault) => (0, fault.record, fault.refusal.number(), 0),
@@ -182,7 +183,7 @@ mod files {
 
 #[cfg(test)]
 mod seatings {
-    use placement::{Seating, Stay, Window};
+    use placement::{Seating, Stay, Window, is_order, own_order};
     use ring::{Pace, Ring};
     use std::test::Fail;
 
@@ -192,6 +193,15 @@ mod seatings {
             lead: 0,
             trail,
         }
+    }
+
+    #[test]
+    fn own_orders(rt: HostRuntime) -> Result<(), Fail> {
+        let order = own_order(rt.alloc(), 3)?;
+        assert_eq!(rt; order.as_slice(), [0usize, 1, 2].as_slice());
+        assert!(rt; is_order(&order, 3));
+        assert!(rt; own_order(rt.alloc(), 0)?.is_empty());
+        Ok(())
     }
 
     // On 200, lengths 60, 30 and 30 in windows (0, 60).

@@ -2,21 +2,15 @@
 // the fault where there is one. Reads the file from standard input.
 #![tactic(auto)]
 
-use anyhow::ensure;
 use jobs::{Arms, Kind, RawDetails};
-use ring::{Fault, Refusal};
+use ring::{Fault, at_record};
 use round_file::{Header, Listing, Note, Record};
 use std::io;
 use std::io::Read;
 
 fn print_header(rt: &HostRuntime, header: Header) -> io::Result<()> {
     let Header { ring, pace, count } = header;
-    println!(rt;
-        "ring {}, pace {}/{}, records {count}",
-        ring.ticks(),
-        pace.p(),
-        pace.q()
-    )
+    println!(rt; "ring {}, pace {pace}, records {count}", ring.ticks())
 }
 
 fn print_record(rt: &HostRuntime, index: usize, record: &Record) -> io::Result<()> {
@@ -47,36 +41,32 @@ fn print_arms(rt: &HostRuntime, record: &Record) -> io::Result<()> {
     print!(rt; "lead {lead}, trail {trail}, ")
 }
 
-// A fault is an answer; want of memory is none.
-fn print_fault(rt: &HostRuntime, fault: Fault) -> anyhow::Result<()> {
-    ensure!(fault.refusal != Refusal::NoMemory, "no memory");
-    println!(rt; "{fault}")?;
-    Ok(())
-}
-
-fn inspect(rt: &HostRuntime, bytes: &[u8]) -> anyhow::Result<()> {
-    match Header::open(bytes) {
+// Prints what stands in the file, and gives its fault where there is one.
+fn inspect(rt: &HostRuntime, bytes: &[u8]) -> io::Result<Option<Fault>> {
+    match at_record(Header::open(bytes), 0) {
         Ok(header) => print_header(rt, header)?,
-        Err(refusal) => return print_fault(rt, Fault { record: 0, refusal }),
+        Err(fault) => return Ok(Some(fault)),
     }
     let listing = match Listing::read(rt.alloc(), bytes) {
         Ok(listing) => listing,
-        Err(fault) => return print_fault(rt, fault),
+        Err(fault) => return Ok(Some(fault)),
     };
     for (i, record) in listing.records.iter().enumerate() {
+        // records count from 1, and a file has at most 64
         print_record(rt, i.saturating_add(1), record)?;
     }
     println!(rt; "bytes left {}", listing.left)?;
-    match listing.fault {
-        Some(fault) => print_fault(rt, fault),
-        None => Ok(()),
-    }
+    Ok(listing.fault)
 }
 
+// A fault is an answer; want of memory is none.
 fn run(rt: &HostRuntime) -> anyhow::Result<()> {
     let mut bytes = Vec::new(rt.alloc());
     rt.stdin().read_to_end(&mut bytes)?;
-    inspect(rt, bytes.as_slice())
+    if let Some(fault) = inspect(rt, &bytes)? {
+        println!(rt; "{}", fault.answer()?)?;
+    }
+    Ok(())
 }
 
 fn main(rt: HostRuntime) -> anyhow::Result<()> {

@@ -9,9 +9,9 @@ use std::fmt;
 
 #[derive(Clone, Copy, PartialEq, Eq, Debug)]
 pub enum Kind {
-    PickUp,
-    Drop,
-    Zone,
+    PickUp = 0,
+    Drop = 1,
+    Zone = 2,
 }
 
 // A number that is no kind's.
@@ -37,11 +37,7 @@ impl From<Kind> for u32 {
     ghost from_gives = { λ kind number. number ≡ kind_number kind };
 
     fn from(kind: Kind) -> u32 {
-        match kind {
-            Kind::PickUp => 0,
-            Kind::Drop => 1,
-            Kind::Zone => 2,
-        }
+        kind as u32
     }
 }
 

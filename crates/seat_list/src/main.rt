@@ -3,23 +3,15 @@
 // from standard input.
 #![tactic(auto)]
 
-use anyhow::{anyhow, ensure};
 use jobs::{Arms, RawDetails};
 use leeway::{NoLeeway, leeway};
-use placement::{Seating, Stay, Window};
-use ring::{Fault, Refusal, Ring};
+use placement::{Seating, Stay, Window, own_order};
+use ring::{Fault, at_record};
 use round_file::{Header, Listing, Record};
-use seaters::{ListOrder, Outcome, Seater};
+use seaters::{ListOrder, NotSeated, Seater};
 use std::io;
 use std::io::Read;
 use trials::{Attempt, trial};
-
-// A fault is an answer; want of memory is none.
-fn print_fault(rt: &HostRuntime, fault: Fault) -> anyhow::Result<()> {
-    ensure!(fault.refusal != Refusal::NoMemory, "no memory");
-    println!(rt; "{fault}")?;
-    Ok(())
-}
 
 fn stay_of(record: &Record) -> Option<Stay> {
     let RawDetails { from, width, .. } = record.details();
@@ -31,156 +23,141 @@ fn stay_of(record: &Record) -> Option<Stay> {
     })
 }
 
-fn print_job(rt: &HostRuntime, record: &Record, stay: &Stay) -> io::Result<()> {
-    let (kind, number) = (record.kind(), record.number());
-    let Stay {
-        window: Window { from, width },
-        lead,
-        trail,
-    } = *stay;
-    println!(rt; "{kind} {number}: window {from} +{width}, lead {lead}, trail {trail}")
-}
-
-// The jobs of an order at their times.
-fn print_times(
-    rt: &HostRuntime,
-    records: &[Record],
-    order: &[usize],
-    times: &[u64],
-) -> anyhow::Result<()> {
-    for (i, time) in order.iter().zip(times.iter()) {
-        if let Some(record) = records.get(*i) {
-            let number = record.number();
-            print!(rt; "{number} at {time}, ")?;
-        }
-    }
-    Ok(())
-}
-
-fn print_trial(
-    rt: &HostRuntime,
-    t: usize,
-    records: &[Record],
-    order: &[usize],
-    attempt: &Attempt,
-) -> anyhow::Result<()> {
-    print!(rt; "trial {t}: ")?;
-    print_times(rt, records, order, attempt.times.as_slice())?;
-    if attempt.closes {
-        println!(rt; "closes")?;
-    } else {
-        println!(rt; "does not close")?;
-    }
-    Ok(())
-}
-
-// The trials, up to the first that closes.
-fn print_trials(
-    rt: &HostRuntime,
+// The jobs of a file with their stays, one for each.
+#[derive(Clone, Copy)]
+struct Jobs<'a> {
     header: Header,
-    records: &[Record],
-    stays: &[Stay],
-) -> anyhow::Result<()> {
-    let ratio = header.pace.ratio();
-    let mut order = Vec::new(rt.alloc());
-    for i in 0..stays.len() {
-        order.push(i)?;
-    }
-    for t in 0..stays.len() {
-        let Some(attempt) = trial(rt.alloc(), header.ring, ratio, stays, order.as_slice())? else {
-            return Ok(());
-        };
-        print_trial(rt, t, records, order.as_slice(), &attempt)?;
-        if attempt.closes {
-            return Ok(());
-        }
-        order.rotate_left(1);
-    }
-    Ok(())
+    records: &'a [Record<'a>],
+    stays: &'a [Stay],
 }
 
-// Each job with its time and its position, in the seating's order.
-fn print_places(
-    rt: &HostRuntime,
-    ring: Ring,
-    records: &[Record],
-    place: &Seating,
-) -> anyhow::Result<()> {
-    for (i, time) in place.order.iter().zip(place.times.iter()) {
-        if let (Some(record), Some(position)) = (records.get(*i), place.position(ring, *i)) {
-            let number = record.number();
-            println!(rt; "{number} at {time}, position {position}")?;
+impl Jobs<'_> {
+    // The jobs of an order at their times.
+    fn print_times(self, rt: &HostRuntime, order: &[usize], times: &[u64]) -> io::Result<()> {
+        for (i, time) in order.iter().zip(times) {
+            if let Some(record) = self.records.get(*i) {
+                print!(rt; "{} at {time}, ", record.number())?;
+            }
         }
+        Ok(())
     }
-    Ok(())
+
+    fn print_trial(
+        self,
+        rt: &HostRuntime,
+        t: usize,
+        order: &[usize],
+        attempt: &Attempt,
+    ) -> io::Result<()> {
+        print!(rt; "trial {t}: ")?;
+        self.print_times(rt, order, &attempt.times)?;
+        println!(rt;
+            "{}",
+            if attempt.closes {
+                "closes"
+            } else {
+                "does not close"
+            }
+        )
+    }
+
+    // The trials, up to the first that closes.
+    fn print_trials(self, rt: &HostRuntime) -> anyhow::Result<()> {
+        let Header { ring, pace, .. } = self.header;
+        let mut order = own_order(rt.alloc(), self.stays.len())?;
+        for t in 0..self.stays.len() {
+            let Some(attempt) = trial(rt.alloc(), ring, pace.into(), self.stays, &order)? else {
+                break;
+            };
+            self.print_trial(rt, t, &order, &attempt)?;
+            if attempt.closes {
+                break;
+            }
+            order.rotate_left(1);
+        }
+        Ok(())
+    }
+
+    // Each job with its time and its position, in the seating's order.
+    fn print_places(self, rt: &HostRuntime, place: &Seating) -> io::Result<()> {
+        for (i, time) in place.order.iter().zip(&place.times) {
+            if let (Some(record), Some(position)) = (
+                self.records.get(*i),
+                place.position(self.header.ring, *i),
+            ) {
+                println!(rt; "{} at {time}, position {position}", record.number())?;
+            }
+        }
+        Ok(())
+    }
+
+    // The leeway of the order that was seated; the empty list has none.
+    fn print_leeway(self, rt: &HostRuntime, order: &[usize]) -> anyhow::Result<()> {
+        match leeway(rt.alloc(), self.header.ring, self.stays, order) {
+            Ok(most) => println!(rt; "leeway {most}")?,
+            Err(NoLeeway::NoMemory) => return Err(NoLeeway::NoMemory.into()),
+            Err(_) => println!(rt; "no leeway")?,
+        }
+        Ok(())
+    }
+
+    fn print_seating(self, rt: &HostRuntime) -> anyhow::Result<()> {
+        let Header { ring, pace, .. } = self.header;
+        let mut place = Seating::empty(rt.alloc());
+        match ListOrder.seat(rt.alloc(), ring, pace, self.stays, &mut place) {
+            Ok(()) => {
+                println!(rt; "seated")?;
+                self.print_places(rt, &place)?;
+                self.print_leeway(rt, &place.order)?;
+            }
+            Err(NotSeated::NotTaken) => println!(rt; "not taken")?,
+            Err(NotSeated::NoneGranted) => {
+                println!(rt; "none: the jobs have no seating in this order")?
+            }
+            Err(NotSeated::NoMemory) => return Err(NotSeated::NoMemory.into()),
+        }
+        Ok(())
+    }
 }
 
-// The leeway of the order that was seated; the empty list has none.
-fn print_leeway(
-    rt: &HostRuntime,
-    ring: Ring,
-    stays: &[Stay],
-    order: &[usize],
-) -> anyhow::Result<()> {
-    match leeway(rt.alloc(), ring, stays, order) {
-        Ok(most) => {
-            let over = most.over();
-            let under = most.under();
-            println!(rt; "leeway {over}/{under}")?;
-        }
-        Err(NoLeeway::NoMemory) => return Err(anyhow!("no memory")),
-        Err(_) => println!(rt; "no leeway")?,
-    }
-    Ok(())
-}
-
-fn print_seating(
-    rt: &HostRuntime,
-    header: Header,
-    records: &[Record],
-    stays: &[Stay],
-) -> anyhow::Result<()> {
-    let mut place = Seating::empty(rt.alloc());
-    match ListOrder.seat(rt.alloc(), header.ring, header.pace, stays, &mut place)? {
-        Outcome::NotTaken => println!(rt; "not taken")?,
-        Outcome::NoneGranted => println!(rt; "none: the jobs have no seating in this order")?,
-        Outcome::Seated => {
-            println!(rt; "seated")?;
-            print_places(rt, header.ring, records, &place)?;
-            print_leeway(rt, header.ring, stays, place.order.as_slice())?;
-        }
-    }
-    Ok(())
-}
-
-fn seat_list(rt: &HostRuntime, bytes: &[u8]) -> anyhow::Result<()> {
-    let header = match Header::open(bytes) {
+// Seats the jobs of a file, and gives its fault where there is one.
+fn seat_list(rt: &HostRuntime, bytes: &[u8]) -> anyhow::Result<Option<Fault>> {
+    let header = match at_record(Header::open(bytes), 0) {
         Ok(header) => header,
-        Err(refusal) => return print_fault(rt, Fault { record: 0, refusal }),
+        Err(fault) => return Ok(Some(fault)),
     };
     let listing = match Listing::read(rt.alloc(), bytes) {
         Ok(listing) => listing,
-        Err(fault) => return print_fault(rt, fault),
+        Err(fault) => return Ok(Some(fault)),
     };
-    if let Some(fault) = listing.fault {
-        return print_fault(rt, fault);
+    if listing.fault.is_some() {
+        return Ok(listing.fault);
     }
     let mut stays = Vec::new(rt.alloc());
-    for record in listing.records.iter() {
+    for record in &listing.records {
         if let Some(stay) = stay_of(record) {
-            print_job(rt, record, &stay)?;
+            println!(rt; "{} {}: {stay}", record.kind(), record.number())?;
             stays.push(stay)?;
         }
     }
-    let records = listing.records.as_slice();
-    print_trials(rt, header, records, stays.as_slice())?;
-    print_seating(rt, header, records, stays.as_slice())
+    let jobs = Jobs {
+        header,
+        records: &listing.records,
+        stays: &stays,
+    };
+    jobs.print_trials(rt)?;
+    jobs.print_seating(rt)?;
+    Ok(None)
 }
 
+// A fault is an answer; want of memory is none.
 fn run(rt: &HostRuntime) -> anyhow::Result<()> {
     let mut bytes = Vec::new(rt.alloc());
     rt.stdin().read_to_end(&mut bytes)?;
-    seat_list(rt, bytes.as_slice())
+    if let Some(fault) = seat_list(rt, &bytes)? {
+        println!(rt; "{}", fault.answer()?)?;
+    }
+    Ok(())
 }
 
 fn main(rt: HostRuntime) -> anyhow::Result<()> {
