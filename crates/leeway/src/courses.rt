@@ -90,6 +90,7 @@ impl Course<'_> {
         ensures { MatchResult result (λ f. Greatest self.entry.ring.ticks self.entry.stays.now self.entry.order.now f) (λ e. e ≡ NoMemory) }
     {
         let mut best = Ratio::whole(0);
+        // by index: of a zip with cycle and skip it is not proved that its indexes are in range
         for k in 0..self.stays.len() {
             best = self.raised(heap, best, self.gap_after(k))?;
         }

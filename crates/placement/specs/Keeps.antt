@@ -24,11 +24,20 @@ pub record Begun (C p q : ℕ) (l : List Stay) (i : ℕ) (s s' : Plan) : Type 0 
       → along C s'.times (suc k) + along C s.times (place_of i s.order + k)
       ≡ along C s'.times k + along C s.times (place_of i s.order + suc k)
 
+-- The same of every list that the seating keeps the rules for, at every pace.
+abbrev pub BegunAnywhere : ℕ → ℕ → Plan → Plan → Type 0
+BegunAnywhere C i s s' =
+    (p q : ℕ) (l : List Stay) → 1 ≤ q → Seated C p q l s → i < length l → Begun C p q l i s s'
+
 -- The seating s without the stay i: lawful for the list without it, and every other stay keeps its
 -- position.
 pub record Left (C p q : ℕ) (l : List Stay) (i : ℕ) (s s' : Plan) : Type 0 where
   pub lawful : Lawful C p q (remove l i) s'
   pub positions : (j : ℕ) → j < length l → (j ≢ i) → position_of C (fallen i j) s' ≡ position_of C j s
+
+abbrev pub LeftAnywhere : ℕ → ℕ → Plan → Plan → Type 0
+LeftAnywhere C i s s' =
+    (p q : ℕ) (l : List Stay) → 1 ≤ q → Seated C p q l s → i < length l → Left C p q l i s s'
 
 -- The list l' at the pace p'/q' asks no more of the seating s than l does at p/q: the pace is no
 -- greater, no lead or trail is longer, and each window holds its stay's time.

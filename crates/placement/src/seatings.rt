@@ -2,7 +2,7 @@ ghost use Rattle.std.specs.Prelude.{◌≡◌, ℕ, suc, ◌+◌, ◌-◌, ◌*�
 ghost use Rattle.std.specs.List.{list_all, range_with_len};
 ghost use Rattle.ring.specs.Questions.{Tells};
 ghost use Rattle.placement.specs.Seatings.{plan, no_plan, FirstPlace, HasPosition, position_of, Order, Fine, Lawful, planned, Plan, Seated, Small, Sound, turned, begun, begun_again, fallen, left_out, without};
-ghost use Rattle.placement.specs.Keeps.{Begun, Left};
+ghost use Rattle.placement.specs.Keeps.{BegunAnywhere, LeftAnywhere};
 ghost use Rattle.placement.specs.Arcs.{Means, PrintedRule};
 ghost use Rattle.placement.specs.Worked.{WorkedSeatings};
 
@@ -11,7 +11,8 @@ use ring::{Pace, Ring};
 use std::alloc::{AllocError, Global};
 
 // An order of a list's stays, by their index in the list, and a time for each, in that order. Any
-// order and any times may be handed in; `lawful` tells the good ones.
+// order and any times may be handed in, of different lengths too, so these are two vectors and not one
+// of pairs; `lawful` tells the good ones.
 #[derive(Drop)]
 pub struct Seating {
     pub order: Vec<usize>,
@@ -94,7 +95,7 @@ fn rules_hold(ring: Ring, pace: Pace, stays: &[Stay], order: &[usize], times: &[
     if times[0] >= ring.ticks() as u64 {
         return false;
     }
-    // by index, since a place is held to the next one: `all` over the places leaves its goal open
+    // by index, since a place is held to the next one; with `all` the goal stays open
     for k in 0..n {
         if !is_fine(ring, pace, stays, order, times, k) {
             return false;
@@ -230,7 +231,7 @@ impl Seating {
     fn turn(&mut self, ring: Ring, stay: usize)
         requires { Sound (plan self.old) }
         ensures begins { plan self.new ≡ begun_again ring.ticks stay (plan self.old) }
-        ensures keeps { (p q : ℕ) (l : List Stay) → 1 ≤ q → Seated ring.ticks p q l (plan self.old) → stay < length l → Begun ring.ticks p q l stay (plan self.old) (plan self.new) }
+        ensures keeps { BegunAnywhere ring.ticks stay (plan self.old) (plan self.new) }
     {
         let k = find(&self.order, stay).unwrap_or(self.order.len());
         turn_order(&mut self.order, k);
@@ -242,7 +243,7 @@ impl Seating {
     pub fn begin_again(&mut self, ring: Ring, stay: usize)
         ensures begins { Sound (plan self.old) → plan self.new ≡ begun_again ring.ticks stay (plan self.old) }
         ensures leaves { (Sound (plan self.old) → ⊥) → plan self.new ≡ plan self.old }
-        ensures keeps { (p q : ℕ) (l : List Stay) → 1 ≤ q → Seated ring.ticks p q l (plan self.old) → stay < length l → Begun ring.ticks p q l stay (plan self.old) (plan self.new) }
+        ensures keeps { BegunAnywhere ring.ticks stay (plan self.old) (plan self.new) }
     {
         seated_is_sound(ring);
         if self.is_sound() {
@@ -266,7 +267,7 @@ impl Seating {
     fn take_out(&mut self, ring: Ring, stay: usize)
         requires { Sound (plan self.old) }
         ensures leaves { plan self.new ≡ without ring.ticks stay (plan self.old) }
-        ensures keeps { (p q : ℕ) (l : List Stay) → 1 ≤ q → Seated ring.ticks p q l (plan self.old) → stay < length l → Left ring.ticks p q l stay (plan self.old) (plan self.new) }
+        ensures keeps { LeftAnywhere ring.ticks stay (plan self.old) (plan self.new) }
     {
         self.leave_out(stay);
         self.turn(ring, 0);
@@ -278,7 +279,7 @@ impl Seating {
     pub fn without(&mut self, ring: Ring, stay: usize)
         ensures leaves_out { Sound (plan self.old) → plan self.new ≡ without ring.ticks stay (plan self.old) }
         ensures leaves { (Sound (plan self.old) → ⊥) → plan self.new ≡ plan self.old }
-        ensures keeps { (p q : ℕ) (l : List Stay) → 1 ≤ q → Seated ring.ticks p q l (plan self.old) → stay < length l → Left ring.ticks p q l stay (plan self.old) (plan self.new) }
+        ensures keeps { LeftAnywhere ring.ticks stay (plan self.old) (plan self.new) }
     {
         seated_is_sound(ring);
         if self.is_sound() {

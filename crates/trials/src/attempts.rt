@@ -7,7 +7,7 @@ use placement::Stay;
 use ring::{Ratio, Ring};
 use std::alloc::{AllocError, Global};
 
-// One trial: its times, and whether it closes. One that does not close has times too.
+// One trial: its times, and whether it closes; one that does not has times too, so no Option says it.
 #[derive(Drop)]
 pub struct Attempt {
     pub times: Vec<u64>,

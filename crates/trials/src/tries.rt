@@ -34,7 +34,7 @@ fn first_closing(
         let mut last = first;
         let mut at = start;
         'followers: for k in 1..n {
-            // by index, since a trial goes round the order from its own place
+            // by index, round the order from t: cycle and skip would step over t places first
             let stay = stays[order[(t + k) % n]];
             let Some(time) = next_time(ring, ratio, &last, at, &stay) else {
                 continue 'trials;
