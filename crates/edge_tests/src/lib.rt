@@ -256,3 +256,56 @@ mod seatings {
         Ok(())
     }
 }
+
+#[cfg(test)]
+mod searches {
+    use placement::{Stay, Window};
+    use ring::{Pace, Ring};
+    use search::{NotFound, search};
+    use std::test::Fail;
+
+    fn trailing(width: u32, trail: u32) -> Stay {
+        Stay {
+            window: Window { from: 0, width },
+            lead: 0,
+            trail,
+        }
+    }
+
+    // Lengths 60, 30 and 30 fill a ring of 120.
+    #[test]
+    fn three(rt: HostRuntime) -> Result<(), Fail> {
+        let list = [trailing(90, 60), trailing(90, 30), trailing(90, 30)];
+        let pace = Pace::new(1, 1)?;
+        let (fits, short) = (Ring::new(120)?, Ring::new(119)?);
+        let seating = search(rt.alloc(), fits, pace, &list)?;
+        assert!(rt; seating.lawful(fits, pace, &list));
+        let refusal = search(rt.alloc(), short, pace, &list).err();
+        assert_eq!(rt; refusal, Some(NotFound::NoneLawful));
+        Ok(())
+    }
+
+    // The length is asked before the bounds.
+    #[test]
+    fn refusals(rt: HostRuntime) -> Result<(), Fail> {
+        let (ring, pace) = (Ring::new(100)?, Pace::new(1, 1)?);
+        let wide = [trailing(100, 1); 65];
+        let refusal = search(rt.alloc(), ring, pace, &wide).err();
+        assert_eq!(rt; refusal, Some(NotFound::TooMany));
+        let refusal = search(rt.alloc(), ring, pace, &wide[1..]).err();
+        assert_eq!(rt; refusal, Some(NotFound::OutOfBounds));
+        Ok(())
+    }
+
+    #[test]
+    fn texts(rt: HostRuntime) -> Result<(), Fail> {
+        let (many, out) = (NotFound::TooMany, NotFound::OutOfBounds);
+        let (none, memory) = (NotFound::NoneLawful, NotFound::NoMemory);
+        let text = format!(in rt.alloc(); "{many}, {out}, {none}, {memory}")?;
+        assert_eq!(rt;
+            text.as_str(),
+            "more than 64 stays, a stay out of bounds, no lawful seating, out of memory"
+        );
+        Ok(())
+    }
+}

@@ -14,7 +14,12 @@ use std::env;
 use std::time::Instant;
 use trials::{Tried, try_order};
 
-fn word(ring: Ring, pace: Pace, stays: &[Stay], answer: &Result<Seating, NotFound>) -> &'static str {
+fn word(
+    ring: Ring,
+    pace: Pace,
+    stays: &[Stay],
+    answer: &Result<Seating, NotFound>,
+) -> &'static str {
     match answer {
         Ok(seating) if seating.lawful(ring, pace, stays) => "fits",
         Ok(_) => "seated against the rules",
