@@ -11,7 +11,7 @@ use std::alloc::Global;
 use trials::{NoSeating, try_order};
 
 // The leeway of an order, and a lawful seating at it.
-#[derive(Drop)]
+#[derive(PartialEq, Eq, Debug, Drop)]
 pub struct Tightest {
     pub leeway: Fraction,
     pub seating: Seating,

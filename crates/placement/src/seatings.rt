@@ -13,7 +13,7 @@ use std::alloc::{AllocError, Global};
 // An order of a list's stays, by their index in the list, and a time for each, in that order. Any
 // order and any times may be handed in, of different lengths too, so these are two vectors and not one
 // of pairs; `lawful` tells the good ones.
-#[derive(Drop)]
+#[derive(PartialEq, Eq, Debug, Drop)]
 pub struct Seating {
     pub order: Vec<usize>,
     pub times: Vec<u64>,

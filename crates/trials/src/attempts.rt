@@ -8,7 +8,7 @@ use ring::{Ratio, Ring};
 use std::alloc::{AllocError, Global};
 
 // One trial: its times, and whether it closes; one that does not has times too, so no Option says it.
-#[derive(Drop)]
+#[derive(PartialEq, Eq, Debug, Drop)]
 pub struct Attempt {
     pub times: Vec<u64>,
     pub closes: bool,
