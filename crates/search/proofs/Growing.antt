@@ -93,9 +93,6 @@ module _ (C p q : ℕ) (l : List Stay) (room : ℕ) where
   sound_up : (hi : ℕ) (ps : List Partial) → Sound C p q l hi ps → Sound C p q l (length ps) ps
   sound_up hi ps so = λ x b. elim (so x b) [ inl z ↦ inl z | inr r ↦ inr (r.0, omega (arith, r.0), r.2) ]
 
-  pub sound_parent : (hi : ℕ) (ps : List Partial) → Sound C p q l hi ps → (x : ℕ) → x < length ps → 0 < x → (nth ps x).parent < x
-  sound_parent hi ps so x b z = elim (so x b) [ inl e ↦ absurd (omega arith) | inr r ↦ r.0 ]
-
   -- One more layer.
   pub grown_more : (k lo hi : ℕ) (old mid new : List Partial) → k < length l → hi ≡ length mid → Grown C p q l room k lo old mid → Layered C p q l room lo (length mid) mid new → Grown C p q l room (k + 1) hi old new
   grown_more k lo hi old mid new hk e s y =

@@ -9,10 +9,6 @@ use Rattle.search.specs.Partials.{Placed, no_partial, nth, same_set}
 use Rattle.search.specs.declared.sets.StaySet.{StaySet}
 use Rattle.search.specs.declared.partials.Partial.{Partial}
 
--- Nothing is found, and the layer is empty.
-pub placed_none : (ps : List Partial) (lo : ℕ) (f : StaySet → Option ℕ) → lo ≡ length ps → ((m : StaySet) → f m ≡ None) → Placed ps lo f
-placed_none ps lo f e n = record { below = omega arith; each = λ x a b. absurd (omega arith); found = λ m x h. let w = sym (n m) ∙ h in cc }
-
 -- What is not found is not there.
 pub placed_new : (ps : List Partial) (lo : ℕ) (f : StaySet → Option ℕ) (m : StaySet) → Placed ps lo f → f m ≡ None → (x : ℕ) → lo ≤ x → x < length ps → (nth ps x).set ≡ m → ⊥
 placed_new ps lo f m h none x l b e = let z = sym none ∙ sym (ap f e) ∙ h.each x l b in cc

@@ -39,9 +39,6 @@ place_round n t k ht hk = elim (dec_lt (t + k) n) [
       inr (omega (arith, h), ap (λ m. m % n) e ∙ add-mod_right (t + k - n) n ∙ mod-eq_of_lt (omega (arith, ht, hk, h)))
 ]
 
-pub place_below : (n t k i : ℕ) → t < n → k < n → Place n t k i → i < n
-place_below n t k i ht hk p = omega arith
-
 pub turned_at : (t k i : ℕ) (os : List ℕ) → t < length os → k < length os → Place (length os) t k i → get_or (turned t os) k 0 ≡ get_or os i 0
 turned_at t k i os ht hk (inl w) = rw w.1 (turned_front t k os w.0)
 turned_at t k i os ht hk (inr w) = rw w.1 (turned_back t k os ht hk w.0)
@@ -50,9 +47,6 @@ pub turned_more : (t k i : ℕ) (os : List ℕ) → t < length os → k < length
 turned_more t k i os ht hk p =
     let b : k < length (turned t os) = omega (arith, length_turned t os (omega arith)) in
     take_more (turned t os) k 0 b ∙ ap (λ o. take k (turned t os) ++ o ∷ []) (turned_at t k i os ht hk p)
-
-pub turned_first : (t : ℕ) (os : List ℕ) → t < length os → take 1 (turned t os) ≡ get_or os t 0 ∷ []
-turned_first t os h = rw (drop_more os t 0 h) refl
 
 pub turned_head : (t : ℕ) (os : List ℕ) → t < length os → get_or (turned t os) 0 0 ≡ get_or os t 0
 turned_head t os h = rw (drop_more os t 0 h) refl
