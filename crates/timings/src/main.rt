@@ -52,48 +52,16 @@ fn run_case<F: FnOnce(Global, Ring) -> Result<Vec<Stay>, AllocError>>(
 }
 
 fn run_cases(rt: &HostRuntime, times: bool) -> anyhow::Result<()> {
-    run_case(
-        rt,
-        times,
-        "12 that just fit",
-        1_146,
-        |heap, ring| whole_ring(heap, ring, 12),
-    )?;
-    run_case(
-        rt,
-        times,
-        "12 one tick short",
-        1_145,
-        |heap, ring| whole_ring(heap, ring, 12),
-    )?;
-    run_case(
-        rt,
-        times,
-        "16 that just fit",
-        1_560,
-        |heap, ring| whole_ring(heap, ring, 16),
-    )?;
-    run_case(
-        rt,
-        times,
-        "16 one tick short",
-        1_559,
-        |heap, ring| whole_ring(heap, ring, 16),
-    )?;
-    run_case(
-        rt,
-        times,
-        "64 short on a day",
-        86_400,
-        |heap, ring| spread(heap, ring, 64, 1_200),
-    )?;
-    run_case(
-        rt,
-        times,
-        "64 long on a day",
-        86_400,
-        |heap, ring| spread(heap, ring, 64, 2_400),
-    )
+    let twelve = |heap: Global, ring: Ring| whole_ring(heap, ring, 12);
+    let sixteen = |heap: Global, ring: Ring| whole_ring(heap, ring, 16);
+    let short = |heap: Global, ring: Ring| spread(heap, ring, 64, 1_200);
+    let long = |heap: Global, ring: Ring| spread(heap, ring, 64, 2_400);
+    run_case(rt, times, "12 that just fit", 1_146, twelve)?;
+    run_case(rt, times, "12 one tick short", 1_145, twelve)?;
+    run_case(rt, times, "16 that just fit", 1_560, sixteen)?;
+    run_case(rt, times, "16 one tick short", 1_559, sixteen)?;
+    run_case(rt, times, "64 short on a day", 86_400, short)?;
+    run_case(rt, times, "64 long on a day", 86_400, long)
 }
 
 // Prints an answer, and how many microseconds it took if that is wanted.
@@ -121,7 +89,7 @@ fn run_leeway(rt: &HostRuntime, times: bool) -> anyhow::Result<()> {
     let took = start.elapsed(rt)?.as_micros();
     let word = match tried {
         Ok(_) => "fits",
-        Err(NoSeating::NoMemory) => return Err(NoSeating::NoMemory.into()),
+        Err(no @ NoSeating::NoMemory) => return Err(no.into()),
         Err(_) => "does not fit",
     };
     print_answer(
