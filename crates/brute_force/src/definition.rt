@@ -72,12 +72,7 @@ pub fn within_bounds(ring: Ring, stay: &Stay) -> bool
 pub fn all_within_bounds(ring: Ring, stays: &[Stay]) -> bool
     ensures { Tells result (InBounds ring.ticks stays.now) }
 {
-    for stay in stays {
-        if !within_bounds(ring, stay) {
-            return false;
-        }
-    }
-    true
+    stays.iter().all(|stay| within_bounds(ring, stay))
 }
 
 pub fn product(a: u32, b: u32) -> u64
