@@ -27,16 +27,8 @@ counts C w x n e = (
   (λ l. le-leb n (w.from + w.width) (omega arith)),
 )
 
-pub counts_after :
-    (C R : ℕ) (w : Window) (x n : ℕ) → R ≡ C → w.from < C → w.from ≤ x % R → n ≡ x % R → Counts C w x n
-counts_after C R w x n e h p q =
-    let p' : w.from ≤ x % C = rw e at p in
-    let q' : n ≡ x % C = rw e at q in
-    counts C w x n (omega (arith, offset_after C w x h p'))
+pub counts_after : (C : ℕ) (w : Window) (x n : ℕ) → w.from < C → w.from ≤ x % C → n ≡ x % C → Counts C w x n
+counts_after C w x n h p q = counts C w x n (omega (arith, offset_after C w x h p))
 
-pub counts_before :
-    (C R : ℕ) (w : Window) (x n : ℕ) → R ≡ C → w.from < C → x % R < w.from → n ≡ x % R + C → Counts C w x n
-counts_before C R w x n e h p q =
-    let p' : x % C < w.from = rw e at p in
-    let q' : n ≡ x % C + C = rw e at q in
-    counts C w x n (omega (arith, offset_before C w x h p'))
+pub counts_before : (C : ℕ) (w : Window) (x n : ℕ) → w.from < C → x % C < w.from → n ≡ x % C + C → Counts C w x n
+counts_before C w x n h p q = counts C w x n (omega (arith, offset_before C w x h p))

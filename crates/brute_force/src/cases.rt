@@ -1,6 +1,9 @@
 // Small lists to compare on, drawn from a fixed row of numbers.
+ghost use Rattle.std.specs.Prelude.{◌≡◌};
+
+use crate::definition::List;
 use crate::draws::Draws;
-use anyhow::anyhow;
+use anyhow::Context;
 use placement::{Stay, Window};
 use ring::{Pace, Ring};
 use std::alloc::{AllocError, Global};
@@ -13,6 +16,20 @@ pub struct Case {
     pub stays: Vec<Stay>,
     pub depot: Stay,
     pub margin: u32,
+}
+
+impl Case {
+    pub fn list(&self) -> List<'_>
+        ensures ring { result.ring ≡ self.now.ring }
+        ensures pace { result.pace ≡ self.now.pace }
+        ensures stays { result.stays.now ≡ self.now.stays.items }
+    {
+        List {
+            ring: self.ring,
+            pace: self.pace,
+            stays: &self.stays,
+        }
+    }
 }
 
 // What the stays of one list are drawn from.
@@ -85,11 +102,7 @@ fn draw_stays(
     bounds: Bounds,
     n: u32,
 ) -> Result<Vec<Stay>, AllocError> {
-    let mut stays = Vec::new(heap);
-    for _ in 0..n {
-        stays.push(draw_any_stay(draws, bounds))?;
-    }
-    Ok(stays)
+    (0..n).map(|_| draw_any_stay(draws, bounds)).collect(heap)
 }
 
 fn draw_margin(draws: &mut Draws) -> u32 {
@@ -126,12 +139,10 @@ fn draw_size(draws: &mut Draws) -> (u32, u32) {
 
 fn draw_case(heap: Global, draws: &mut Draws) -> anyhow::Result<Case> {
     let (n, ticks) = draw_size(draws);
-    let Ok(ring) = Ring::new(ticks) else {
-        return Err(anyhow!("no such ring"));
-    };
-    let Ok(pace) = Pace::new(1 + draws.below(4), 1 + draws.below(4)) else {
-        return Err(anyhow!("no such pace"));
-    };
+    let ring = Ring::new(ticks).ok().context("no such ring")?;
+    let pace = Pace::new(1 + draws.below(4), 1 + draws.below(4))
+        .ok()
+        .context("no such pace")?;
     let bounds = Bounds {
         ring,
         longest: longest(ring, pace, n),
@@ -149,11 +160,9 @@ fn draw_case(heap: Global, draws: &mut Draws) -> anyhow::Result<Case> {
 
 pub fn draw_cases(heap: Global, seed: u64, count: usize) -> anyhow::Result<Vec<Case>> {
     let mut draws = Draws::new(seed);
-    let mut cases = Vec::new(heap);
-    for _ in 0..count {
-        cases.push(draw_case(heap, &mut draws)?)?;
-    }
-    Ok(cases)
+    (0..count)
+        .map(|_| draw_case(heap, &mut draws))
+        .try_collect(heap)
 }
 
 // Lengths up to this leave about every second list with room for all its stays.
@@ -163,5 +172,5 @@ fn longest(ring: Ring, pace: Pace, n: u32) -> u32 {
         .p()
         .saturating_mul(n.saturating_add(1))
         .saturating_mul(3);
-    if shares == 0 { 0 } else { room / shares }
+    room.checked_div(shares).unwrap_or(0)
 }

@@ -1,35 +1,59 @@
 // A seater's answers, held to what the rules say.
+ghost use Rattle.std.specs.Prelude.{◌≡◌, ◌≢◌, Err, MatchResult};
+ghost use Rattle.seaters.specs.declared.nos.NotSeated.TheVariants.{NoMemory};
+
 use crate::cases::Case;
-use crate::definition::{Rule, positions_fit};
-use crate::layers::{Pile, expect};
+use crate::definition::{Answer, Rule};
+use crate::layers::{Layer, expect};
 use placement::Seating;
-use seaters::{Depot, Margin, Outcome, Seater};
+use seaters::{NotSeated, Seater};
 use std::alloc::{AllocError, Global};
+use std::fmt;
 
 // How often each answer came.
-#[derive(Clone, Copy)]
+#[derive(Clone, Copy, Default)]
 pub struct Tally {
-    pub seated: u64,
-    pub not_granted: u64,
-    pub not_taken: u64,
+    seated: u64,
+    not_granted: u64,
+    not_taken: u64,
 }
 
 impl Tally {
-    pub fn new() -> Tally {
-        Tally {
-            seated: 0,
-            not_granted: 0,
-            not_taken: 0,
-        }
-    }
-
-    pub fn add(&mut self, outcome: Outcome) {
-        let counted = match outcome {
-            Outcome::Seated => &mut self.seated,
-            Outcome::NoneGranted => &mut self.not_granted,
-            Outcome::NotTaken => &mut self.not_taken,
+    // Want of memory is no answer, and is not counted.
+    pub fn add(&mut self, answer: Answer)
+        ensures { answer ≡ Err NoMemory → self.new ≡ self.old }
+    {
+        let counted = match answer {
+            Ok(()) => &mut self.seated,
+            Err(NotSeated::NoneGranted) => &mut self.not_granted,
+            Err(NotSeated::NotTaken) => &mut self.not_taken,
+            Err(NotSeated::NoMemory) => return,
         };
         *counted = counted.saturating_add(1);
+    }
+}
+
+impl fmt::Display for Tally {
+    fn fmt<W: fmt::Write>(&self, f: &mut fmt::Formatter<W>) -> fmt::Result {
+        let Tally {
+            seated,
+            not_granted,
+            not_taken,
+        } = *self;
+        write!(
+            f,
+            "seated {seated}, not granted {not_granted}, not taken {not_taken}"
+        )
+    }
+}
+
+// The answer itself; want of memory is none, and is an error.
+pub fn answered(answer: Answer) -> Result<Answer, NotSeated>
+    ensures { MatchResult result (λ a. (a ≡ answer) × (answer ≢ Err NoMemory)) (λ e. (e ≡ NoMemory) × (answer ≡ Err NoMemory)) }
+{
+    match answer {
+        Err(NotSeated::NoMemory) => Err(NotSeated::NoMemory),
+        _ => Ok(answer),
     }
 }
 
@@ -48,12 +72,24 @@ pub enum Wrong {
     PlaceChanged,
 }
 
+impl fmt::Display for Wrong {
+    fn fmt<W: fmt::Write>(&self, f: &mut fmt::Formatter<W>) -> fmt::Result {
+        f.write_str(match self {
+            Wrong::Answer => "the rules say another",
+            Wrong::Unlawful => "the seating is not lawful",
+            Wrong::Overlaps => "its positions do not fit",
+            Wrong::OutOfOrder => "the seating is not in the list's order",
+            Wrong::PlaceChanged => "the place has changed",
+        })
+    }
+}
+
 // A case on which a seater and the rules disagree.
 #[derive(Drop)]
 pub struct Disagreement {
     pub case: usize,
-    pub expected: Outcome,
-    pub given: Outcome,
+    pub expected: Answer,
+    pub given: Answer,
     pub wrong: Wrong,
     pub place: Seating,
 }
@@ -79,12 +115,7 @@ fn is_marked(place: &Seating) -> bool {
 }
 
 fn in_list_order(order: &[usize]) -> bool {
-    for (i, o) in order.iter().enumerate() {
-        if i != *o {
-            return false;
-        }
-    }
-    true
+    order.iter().copied().eq(0..order.len())
 }
 
 // What is wrong with a seating of the list of a case.
@@ -97,7 +128,7 @@ fn judge_seating(
     if !place.lawful(case.ring, case.pace, &case.stays) {
         return Ok(Some(Wrong::Unlawful));
     }
-    if !positions_fit(heap, case.ring, case.pace, &case.stays, place)? {
+    if !case.list().positions_fit(heap, place)? {
         return Ok(Some(Wrong::Overlaps));
     }
     match rule {
@@ -111,71 +142,40 @@ fn judge(
     heap: Global,
     rule: Rule,
     case: &Case,
-    expected: Outcome,
-    given: Outcome,
+    expected: Answer,
+    given: Answer,
     place: &Seating,
 ) -> Result<Option<Wrong>, AllocError> {
     if given != expected {
         return Ok(Some(Wrong::Answer));
     }
     match given {
-        Outcome::Seated => judge_seating(heap, rule, case, place),
-        _ if is_marked(place) => Ok(None),
-        _ => Ok(Some(Wrong::PlaceChanged)),
+        Ok(()) => judge_seating(heap, rule, case, place),
+        Err(_) if is_marked(place) => Ok(None),
+        Err(_) => Ok(Some(Wrong::PlaceChanged)),
     }
 }
 
-fn ask<S: Seater>(
+// Puts every case to the seater that is made for it. By the rules that is one under these layers.
+pub fn compare<S: Seater + Drop, F: Fn(&Case) -> S>(
     heap: Global,
-    seater: &S,
-    case: &Case,
-    place: &mut Seating,
-) -> Result<Outcome, AllocError> {
-    seater.seat(heap, case.ring, case.pace, &case.stays, place)
-}
-
-// Asks the seater under a pile of layers.
-fn ask_pile<S: Seater + Copy>(
-    heap: Global,
-    below: S,
-    pile: Pile,
-    case: &Case,
-    place: &mut Seating,
-) -> Result<Outcome, AllocError> {
-    let depot = case.depot;
-    let margin = case.margin;
-    match pile {
-        Pile::Bare => ask(heap, &below, case, place),
-        Pile::Depot => ask(heap, &Depot { below, depot }, case, place),
-        Pile::Margin => ask(heap, &Margin { below, margin }, case, place),
-        Pile::DepotOverMargin => {
-            let below = Margin { below, margin };
-            ask(heap, &Depot { below, depot }, case, place)
-        }
-        Pile::MarginOverDepot => {
-            let below = Depot { below, depot };
-            ask(heap, &Margin { below, margin }, case, place)
-        }
-    }
-}
-
-// Puts every case to a seater under a pile of layers.
-pub fn compare<S: Seater + Copy>(
-    heap: Global,
-    seater: S,
     rule: Rule,
-    pile: Pile,
+    layers: &[Layer],
+    seater: F,
     cases: &[Case],
-) -> Result<Compared, AllocError> {
+) -> Result<Compared, NotSeated>
+    requires { F.IsAlwaysCallable seater }
+{
     let mut compared = Compared {
-        tally: Tally::new(),
+        tally: Tally::default(),
         disagreements: 0,
         first: None,
     };
     for (i, case) in cases.iter().enumerate() {
-        let expected = expect(heap, rule, pile, case)?;
+        let expected = answered(expect(heap, rule, layers, case))?;
         let mut place = marked(heap)?;
-        let given = ask_pile(heap, seater, pile, case, &mut place)?;
+        let asked = seater(case);
+        let given = answered(asked.seat(heap, case.ring, case.pace, &case.stays, &mut place))?;
         compared.tally.add(given);
         if let Some(wrong) = judge(heap, rule, case, expected, given, &place)? {
             compared.disagreements = compared.disagreements.saturating_add(1);

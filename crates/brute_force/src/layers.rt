@@ -1,10 +1,10 @@
 // What layers above a seater make of a list, from their rules alone.
 use crate::cases::Case;
-use crate::definition::{Rule, decide, within_bounds};
+use crate::definition::{Answer, List, Rule, within_bounds};
 use placement::Stay;
 use ring::Ring;
-use seaters::Outcome;
-use std::alloc::{AllocError, Global};
+use seaters::NotSeated;
+use std::alloc::Global;
 
 #[derive(Clone, Copy)]
 pub enum Layer {
@@ -12,72 +12,33 @@ pub enum Layer {
     Margin,
 }
 
-// The layers above a seater, from the top.
-#[derive(Clone, Copy)]
-pub enum Pile {
-    Bare,
-    Depot,
-    Margin,
-    DepotOverMargin,
-    MarginOverDepot,
-}
-
-pub const PILES: [Pile; 5] = [
-    Pile::Bare,
-    Pile::Depot,
-    Pile::Margin,
-    Pile::DepotOverMargin,
-    Pile::MarginOverDepot,
-];
-
-impl Pile {
-    fn layers(self) -> &'static [Layer] {
-        match self {
-            Pile::Bare => &[],
-            Pile::Depot => &[Layer::Depot],
-            Pile::Margin => &[Layer::Margin],
-            Pile::DepotOverMargin => &[Layer::Depot, Layer::Margin],
-            Pile::MarginOverDepot => &[Layer::Margin, Layer::Depot],
-        }
-    }
-
-    pub fn name(self) -> &'static str {
-        match self {
-            Pile::Bare => "",
-            Pile::Depot => " under a depot",
-            Pile::Margin => " under a margin",
-            Pile::DepotOverMargin => " under a depot over a margin",
-            Pile::MarginOverDepot => " under a margin over a depot",
-        }
-    }
-}
-
-// What a pile on a seater says of the list of a case. The empty list is always seated.
-pub fn expect(heap: Global, rule: Rule, pile: Pile, case: &Case) -> Result<Outcome, AllocError> {
+// What a seater under layers, told from the top, says of the list of a case. The empty list is always
+// seated.
+pub fn expect(heap: Global, rule: Rule, layers: &[Layer], case: &Case) -> Answer {
     if case.stays.is_empty() {
-        return Ok(Outcome::Seated);
+        return Ok(());
     }
-    let mut list = Vec::from_slice(heap, &case.stays)?;
-    for layer in pile.layers() {
+    let mut stays = Vec::from_slice(heap, &case.stays)?;
+    for layer in layers {
         match layer {
-            Layer::Depot => list.push(case.depot)?,
-            Layer::Margin => {
-                if !lengthen(case.ring, case.margin, &mut list) {
-                    return Ok(Outcome::NotTaken);
-                }
-            }
+            Layer::Depot => stays.push(case.depot)?,
+            Layer::Margin => lengthen(case.ring, case.margin, &mut stays)?,
         }
     }
-    decide(heap, rule, case.ring, case.pace, &list)
+    let list = List {
+        stays: &stays,
+        ..case.list()
+    };
+    rule.decide(heap, list)
 }
 
-// Each trail longer by the margin; no, where the margin's layer does not take the list.
-fn lengthen(ring: Ring, margin: u32, list: &mut [Stay]) -> bool {
-    for stay in list.iter_mut() {
+// Each trail longer by the margin, where the margin's layer takes the list.
+fn lengthen(ring: Ring, margin: u32, stays: &mut [Stay]) -> Answer {
+    for stay in stays.iter_mut() {
         if margin > 1_000 || !within_bounds(ring, stay) || stay.trail > 40_000 - margin {
-            return false;
+            return Err(NotSeated::NotTaken);
         }
         stay.trail += margin;
     }
-    true
+    Ok(())
 }

@@ -13,68 +13,41 @@ mod ratios;
 use any_order::AnyOrder;
 use anyhow::anyhow;
 use cases::{Case, draw_cases};
-use compare::{Disagreement, Tally, Wrong, compare};
-use definition::Rule;
-use layers::{PILES, Pile, expect};
-use placement::{Seating, Stay};
-use ratios::{Expected, expect_leeway, leeway_agrees, own_order};
-use seaters::{ListOrder, Outcome, Seater};
+use compare::{Disagreement, Tally, answered, compare};
+use definition::{Answer, Rule};
+use layers::{Layer, expect};
+use placement::own_order;
+use ratios::{expect_leeway, leeway_agrees};
+use seaters::{Depot, ListOrder, Margin, Seater};
+use std::fmt;
 
 const SEED: u64 = 20_113;
 
 const LISTS: usize = 2_000;
 
-fn answer(outcome: Outcome) -> &'static str {
-    match outcome {
-        Outcome::Seated => "seated",
-        Outcome::NoneGranted => "not granted",
-        Outcome::NotTaken => "not taken",
+// An answer as it is printed.
+#[derive(Clone, Copy)]
+struct Printed(Answer);
+
+impl fmt::Display for Printed {
+    fn fmt<W: fmt::Write>(&self, f: &mut fmt::Formatter<W>) -> fmt::Result {
+        match self.0 {
+            Ok(()) => write!(f, "seated"),
+            Err(no) => write!(f, "{no}"),
+        }
     }
-}
-
-fn fault(wrong: Wrong) -> &'static str {
-    match wrong {
-        Wrong::Answer => "the rules say another",
-        Wrong::Unlawful => "the seating is not lawful",
-        Wrong::Overlaps => "its positions do not fit",
-        Wrong::OutOfOrder => "the seating is not in the list's order",
-        Wrong::PlaceChanged => "the place has changed",
-    }
-}
-
-fn print_tally(rt: &HostRuntime, tally: Tally) -> anyhow::Result<()> {
-    let seated = tally.seated;
-    let not_granted = tally.not_granted;
-    let not_taken = tally.not_taken;
-    println!(rt; "seated {seated}, not granted {not_granted}, not taken {not_taken}")?;
-    Ok(())
-}
-
-fn print_stay(rt: &HostRuntime, name: &str, stay: &Stay) -> anyhow::Result<()> {
-    let from = stay.window.from;
-    let width = stay.window.width;
-    let lead = stay.lead;
-    let trail = stay.trail;
-    println!(rt; "  {name}: window {from} +{width}, lead {lead}, trail {trail}")?;
-    Ok(())
 }
 
 fn print_case(rt: &HostRuntime, case: &Case) -> anyhow::Result<()> {
     let ticks = case.ring.ticks();
-    let p = case.pace.p();
-    let q = case.pace.q();
-    let margin = case.margin;
-    println!(rt; "  ring {ticks}, pace {p}/{q}, margin {margin}")?;
+    println!(rt;
+        "  ring {ticks}, pace {}, margin {}",
+        case.pace, case.margin
+    )?;
     for stay in case.stays.iter() {
-        print_stay(rt, "stay", stay)?;
+        println!(rt; "  stay: {stay}")?;
     }
-    print_stay(rt, "depot", &case.depot)
-}
-
-fn print_place(rt: &HostRuntime, place: &Seating) -> anyhow::Result<()> {
-    for (i, time) in place.order.iter().zip(place.times.iter()) {
-        println!(rt; "  index {i} at {time}")?;
-    }
+    println!(rt; "  depot: {}", case.depot)?;
     Ok(())
 }
 
@@ -83,69 +56,114 @@ fn print_disagreement(
     cases: &[Case],
     found: &Disagreement,
 ) -> anyhow::Result<()> {
-    let index = found.case;
-    let given = answer(found.given);
-    let expected = answer(found.expected);
-    let wrong = fault(found.wrong);
-    println!(rt; "  list {index}: {given}, by the rules {expected}: {wrong}")?;
-    if let Some(case) = cases.get(index) {
+    let given = Printed(found.given);
+    let expected = Printed(found.expected);
+    println!(rt;
+        "  list {}: {given}, by the rules {expected}: {}",
+        found.case, found.wrong
+    )?;
+    if let Some(case) = cases.get(found.case) {
         print_case(rt, case)?;
     }
-    print_place(rt, &found.place)
+    for (i, time) in found.place.order.iter().zip(found.place.times.iter()) {
+        println!(rt; "  index {i} at {time}")?;
+    }
+    Ok(())
+}
+
+// The lists that are compared, by the seatings that are granted.
+#[derive(Clone, Copy)]
+struct Comparison<'a> {
+    rt: &'a HostRuntime,
+    rule: Rule,
+    cases: &'a [Case],
+}
+
+impl Comparison<'_> {
+    // Compares the seater that is made for each case, one under these layers by the rules; gives how
+    // many disagreements there are.
+    fn of<S: Seater + Drop, F: Fn(&Case) -> S>(
+        self,
+        name: &str,
+        layers: &[Layer],
+        seater: F,
+    ) -> anyhow::Result<u64>
+        requires { F.IsAlwaysCallable seater }
+    {
+        let Comparison { rt, rule, cases } = self;
+        let compared = compare(rt.alloc(), rule, layers, seater, cases)?;
+        println!(rt; "{rule}{name}: {}", compared.tally)?;
+        if let Some(found) = &compared.first {
+            print_disagreement(rt, cases, found)?;
+        }
+        Ok(compared.disagreements)
+    }
+}
+
+fn under_depot<S>(below: S, case: &Case) -> Depot<S> {
+    Depot {
+        below,
+        depot: case.depot,
+    }
+}
+
+fn under_margin<S>(below: S, case: &Case) -> Margin<S> {
+    Margin {
+        below,
+        margin: case.margin,
+    }
 }
 
 // Compares a seater alone and under each pile of layers; gives how many disagreements there are.
-fn compare_seater<S: Seater + Copy>(
+fn compare_seater<S: Seater + Copy + Drop>(
     rt: &HostRuntime,
-    name: &str,
     seater: S,
     rule: Rule,
     cases: &[Case],
 ) -> anyhow::Result<u64> {
-    let mut disagreements = 0u64;
-    for pile in PILES {
-        let compared = compare(rt.alloc(), seater, rule, pile, cases)?;
-        let layers = pile.name();
-        print!(rt; "{name}{layers}: ")?;
-        print_tally(rt, compared.tally)?;
-        if let Some(found) = &compared.first {
-            print_disagreement(rt, cases, found)?;
-        }
-        disagreements = disagreements.saturating_add(compared.disagreements);
-    }
-    Ok(disagreements)
+    let compare = Comparison { rt, rule, cases };
+    let depot = |case: &Case| under_depot(seater, case);
+    let margin = |case: &Case| under_margin(seater, case);
+    let depot_first = |case: &Case| under_depot(under_margin(seater, case), case);
+    let margin_first = |case: &Case| under_margin(under_depot(seater, case), case);
+    let both = [Layer::Depot, Layer::Margin];
+    let turned = [Layer::Margin, Layer::Depot];
+    let disagreements = [
+        compare.of("", &[], |_| seater)?,
+        compare.of(" under a depot", &[Layer::Depot], depot)?,
+        compare.of(" under a margin", &[Layer::Margin], margin)?,
+        compare.of(" under a depot over a margin", &both, depot_first)?,
+        compare.of(" under a margin over a depot", &turned, margin_first)?,
+    ];
+    Ok(
+        disagreements
+            .iter()
+            .fold(0u64, |sum, n| sum.saturating_add(*n)),
+    )
 }
 
 // What the rule says of the lists of n stays.
-fn print_length(
-    rt: &HostRuntime,
-    name: &str,
-    rule: Rule,
-    cases: &[Case],
-    n: usize,
-) -> anyhow::Result<()> {
-    let mut tally = Tally::new();
-    for case in cases {
-        if case.stays.len() == n {
-            tally.add(expect(rt.alloc(), rule, Pile::Bare, case)?);
-        }
+fn print_length(rt: &HostRuntime, rule: Rule, cases: &[Case], n: usize) -> anyhow::Result<()> {
+    let mut tally = Tally::default();
+    for case in cases.iter().filter(|case| case.stays.len() == n) {
+        tally.add(answered(expect(rt.alloc(), rule, &[], case))?);
     }
-    print!(rt; "lists of {n}, {name} by the rules: ")?;
-    print_tally(rt, tally)
+    println!(rt; "lists of {n}, {rule} by the rules: {tally}")?;
+    Ok(())
 }
 
 fn print_lengths(rt: &HostRuntime, cases: &[Case]) -> anyhow::Result<()> {
     for n in 0..6usize {
-        print_length(rt, "list order", Rule::ListOrder, cases, n)?;
-        print_length(rt, "any order", Rule::AnyOrder, cases, n)?;
+        print_length(rt, Rule::ListOrder, cases, n)?;
+        print_length(rt, Rule::AnyOrder, cases, n)?;
     }
     Ok(())
 }
 
 // Compares every seater; gives how many disagreements there are.
 fn compare_seaters(rt: &HostRuntime, cases: &[Case]) -> anyhow::Result<u64> {
-    let list_order = compare_seater(rt, "list order", ListOrder, Rule::ListOrder, cases)?;
-    let any_order = compare_seater(rt, "any order", AnyOrder, Rule::AnyOrder, cases)?;
+    let list_order = compare_seater(rt, ListOrder, Rule::ListOrder, cases)?;
+    let any_order = compare_seater(rt, AnyOrder, Rule::AnyOrder, cases)?;
     Ok(list_order.saturating_add(any_order))
 }
 
@@ -155,16 +173,18 @@ fn compare_leeways(rt: &HostRuntime, cases: &[Case]) -> anyhow::Result<u64> {
     let mut above_zero = 0u64;
     let mut none = 0u64;
     let mut disagreements = 0u64;
-    for (i, case) in cases.iter().enumerate() {
-        if case.stays.len() > 12 {
-            continue;
-        }
+    for (i, case) in cases
+        .iter()
+        .enumerate()
+        .filter(|(_, case)| case.stays.len() <= 12)
+    {
         let order = own_order(rt.alloc(), case.stays.len())?;
         let expected = expect_leeway(case.ring, &case.stays);
-        match expected {
-            Expected::Most(_) => above_zero = above_zero.saturating_add(1),
-            Expected::Refused(_) => none = none.saturating_add(1),
-        }
+        let counted = match expected {
+            Ok(_) => &mut above_zero,
+            Err(_) => &mut none,
+        };
+        *counted = counted.saturating_add(1);
         if !leeway_agrees(rt.alloc(), case.ring, &case.stays, &order, expected) {
             disagreements = disagreements.saturating_add(1);
             println!(rt; "  list {i}: the leeway is another by the rules")?;
