@@ -1,11 +1,12 @@
 // What can be seated, from the rules alone, by trying everything. Of the library only the plain types
 // are used here.
-ghost use Rattle.std.specs.Prelude.{◌≡◌, ◌+◌, ◌*◌, ◌<◌, ◌≤◌, ◌^◌, length};
+ghost use Rattle.std.specs.Prelude.{◌≡◌, ◌+◌, ◌*◌, ◌%◌, ◌<◌, ◌≤◌, ◌^◌, Err, IfSome, length};
 ghost use Rattle.std.specs.Iterator.{IsFinite};
 ghost use Rattle.ring.specs.Questions.{Tells};
 ghost use Rattle.placement.specs.Arcs.{InBounds};
 ghost use Rattle.placement.specs.Stays.{Apart, StayBounds};
 ghost use Rattle.placement.specs.Windows.{Holds};
+ghost use Rattle.seaters.specs.declared.nos.NotSeated.TheVariants.{NotTaken};
 
 use placement::{Seating, Stay, Window};
 use ring::{Pace, Ring};
@@ -34,7 +35,9 @@ impl fmt::Display for Rule {
 
 impl Rule {
     // The longest list that is taken.
-    fn longest(self) -> usize {
+    fn longest(self) -> usize
+        ensures { result ≤ 64 }
+    {
         match self {
             Rule::ListOrder => 64,
             Rule::AnyOrder => 12,
@@ -42,7 +45,10 @@ impl Rule {
     }
 
     // What the rule says of a list.
-    pub fn decide(self, heap: Global, list: List) -> Answer {
+    pub fn decide(self, heap: Global, list: List) -> Answer
+        ensures long { 64 < length list.entry.stays.now → result ≡ Err NotTaken }
+        ensures bounds { (InBounds list.entry.ring.ticks list.entry.stays.now → ⊥) → result ≡ Err NotTaken }
+    {
         if list.stays.len() > self.longest() || !all_within_bounds(list.ring, list.stays) {
             return Err(NotSeated::NotTaken);
         }
@@ -112,7 +118,9 @@ impl Placed<'_> {
         end + product(p, next.stay.lead) as u128 <= q as u128 * next.time as u128
     }
 
-    fn in_window(self, ring: Ring) -> bool {
+    fn in_window(self, ring: Ring) -> bool
+        ensures { self.entry.stay.now.window.from < ring.ticks → Tells result (Holds ring.ticks self.entry.stay.now.window self.entry.time) }
+    {
         lies_in(ring, self.stay.window, self.time)
     }
 }
@@ -132,6 +140,7 @@ where
     requires can { I.can_next others }
     requires ends { IsFinite (I.remaining others) }
     requires calls { F.IsAlwaysCallable step }
+    ensures { first.entry.stay.now.window.from < ring.ticks → IfSome result (λ _. Holds ring.ticks first.entry.stay.now.window first.entry.time) }
 {
     if !first.in_window(ring) {
         return None;
@@ -175,7 +184,9 @@ impl Iterator for Times {
 }
 
 // How many numbers have a digit for each stay, in a base, and one more digit in the base `first`.
-pub fn how_many(first: u64, base: u64, stays: &[Stay]) -> u64 {
+pub fn how_many(first: u64, base: u64, stays: &[Stay]) -> u64
+    ensures { first * base ^ length stays.now < 2 ^ 64 → result ≡ first * base ^ length stays.now }
+{
     stays
         .iter()
         .fold(first, |numbers, _| numbers.saturating_mul(base))
@@ -275,7 +286,9 @@ pub struct Rounds<'a> {
 }
 
 impl<'a> Rounds<'a> {
-    pub fn count(self) -> u64 {
+    pub fn count(self) -> u64
+        ensures { length self.entry.others.now ≡ 0 → result ≡ self.entry.ring.ticks }
+    {
         let ticks = self.ring.ticks() as u64;
         how_many(ticks, ticks + 1, self.others)
     }
@@ -288,6 +301,7 @@ impl<'a> Rounds<'a> {
         step: F,
     ) -> Option<A>
         requires { F.IsAlwaysCallable step }
+        ensures { self.entry.first.now.window.from < self.entry.ring.ticks → IfSome result (λ _. Holds self.entry.ring.ticks self.entry.first.now.window (number % self.entry.ring.ticks)) }
     {
         let ticks = self.ring.ticks();
         let start = (number % ticks as u64) as u32;
