@@ -64,8 +64,8 @@ impl Rule {
     }
 }
 
-// The bounds, the windows and the rule of two stays are written here once more, since the library's own
-// are what is compared.
+// The bounds, the windows and the rule of two stays are written once more in this file, since the
+// library's own are what is compared.
 pub fn within_bounds(ring: Ring, stay: &Stay) -> bool
     ensures { Tells result (StayBounds ring.ticks stay.now) }
 {
@@ -110,7 +110,8 @@ pub struct Placed<'a> {
 }
 
 impl Placed<'_> {
-    // Whether there is room, at p/q, for the trail of this stay and the lead of the next.
+    // Whether there is room, at p/q, for the trail of this stay and the lead of the next. Not the
+    // library's own, which is compared.
     pub fn apart(self, p: u32, q: u32, next: Placed) -> bool
         ensures { Tells result (Apart p q self.entry.stay.now self.entry.time next.entry.stay.now next.entry.time) }
     {
@@ -184,9 +185,7 @@ impl Iterator for Times {
 }
 
 // How many numbers have a digit for each stay, in a base, and one more digit in the base `first`.
-pub fn how_many(first: u64, base: u64, stays: &[Stay]) -> u64
-    ensures { first * base ^ length stays.now < 2 ^ 64 → result ≡ first * base ^ length stays.now }
-{
+fn how_many(first: u64, base: u64, stays: &[Stay]) -> u64 {
     stays
         .iter()
         .fold(first, |numbers, _| numbers.saturating_mul(base))
@@ -243,11 +242,8 @@ impl<'a> List<'a> {
     }
 
     fn all_in_windows(self, positions: Times) -> bool {
-        self.stays.iter().zip(positions).all(|(stay, position)| lies_in(
-            self.ring,
-            stay.window,
-            position as u64,
-        ))
+        let mut placed = self.stays.iter().zip(positions);
+        placed.all(|(stay, position)| lies_in(self.ring, stay.window, position as u64))
     }
 
     fn none_overlap(self, positions: Times, marks: &mut [bool]) -> bool {
@@ -286,9 +282,7 @@ pub struct Rounds<'a> {
 }
 
 impl<'a> Rounds<'a> {
-    pub fn count(self) -> u64
-        ensures { length self.entry.others.now ≡ 0 → result ≡ self.entry.ring.ticks }
-    {
+    pub fn count(self) -> u64 {
         let ticks = self.ring.ticks() as u64;
         how_many(ticks, ticks + 1, self.others)
     }
