@@ -211,6 +211,7 @@ impl<'a> List<'a> {
     pub fn positions_fit(self, heap: Global, place: &Seating) -> Result<bool, AllocError> {
         let ticks = self.ring.ticks() as u64;
         let mut number = 0u64;
+        // by index, since the seating names its stays by theirs
         for stay in (0..self.stays.len()).rev() {
             let Some(time) = time_of(place, stay) else {
                 return Ok(false);
