@@ -1,5 +1,5 @@
 // Small lists to compare on, drawn from a fixed row of numbers.
-ghost use Rattle.std.specs.Prelude.{◌≡◌};
+ghost use Rattle.std.specs.Prelude.{◌≡◌, IfOk, vec_len};
 
 use crate::definition::List;
 use crate::draws::Draws;
@@ -158,7 +158,9 @@ fn draw_case(heap: Global, draws: &mut Draws) -> anyhow::Result<Case> {
     })
 }
 
-pub fn draw_cases(heap: Global, seed: u64, count: usize) -> anyhow::Result<Vec<Case>> {
+pub fn draw_cases(heap: Global, seed: u64, count: usize) -> anyhow::Result<Vec<Case>>
+    ensures { IfOk result (λ cases. vec_len cases ≡ count) }
+{
     let mut draws = Draws::new(seed);
     (0..count)
         .map(|_| draw_case(heap, &mut draws))

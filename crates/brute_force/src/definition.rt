@@ -1,11 +1,12 @@
 // What can be seated, from the rules alone, by trying everything. Of the library only the plain types
 // are used here.
-ghost use Rattle.std.specs.Prelude.{◌≡◌, ◌+◌, ◌*◌, ◌<◌, ◌≤◌, ◌^◌, length};
+ghost use Rattle.std.specs.Prelude.{◌≡◌, ◌+◌, ◌*◌, ◌%◌, ◌<◌, ◌≤◌, ◌^◌, Err, IfSome, length};
 ghost use Rattle.std.specs.Iterator.{IsFinite};
 ghost use Rattle.ring.specs.Questions.{Tells};
 ghost use Rattle.placement.specs.Arcs.{InBounds};
 ghost use Rattle.placement.specs.Stays.{Apart, StayBounds};
 ghost use Rattle.placement.specs.Windows.{Holds};
+ghost use Rattle.seaters.specs.declared.nos.NotSeated.TheVariants.{NotTaken};
 
 use placement::{Seating, Stay, Window};
 use ring::{Pace, Ring};
@@ -34,7 +35,9 @@ impl fmt::Display for Rule {
 
 impl Rule {
     // The longest list that is taken.
-    fn longest(self) -> usize {
+    fn longest(self) -> usize
+        ensures { result ≤ 64 }
+    {
         match self {
             Rule::ListOrder => 64,
             Rule::AnyOrder => 12,
@@ -42,7 +45,10 @@ impl Rule {
     }
 
     // What the rule says of a list.
-    pub fn decide(self, heap: Global, list: List) -> Answer {
+    pub fn decide(self, heap: Global, list: List) -> Answer
+        ensures long { 64 < length list.entry.stays.now → result ≡ Err NotTaken }
+        ensures bounds { (InBounds list.entry.ring.ticks list.entry.stays.now → ⊥) → result ≡ Err NotTaken }
+    {
         if list.stays.len() > self.longest() || !all_within_bounds(list.ring, list.stays) {
             return Err(NotSeated::NotTaken);
         }
@@ -58,8 +64,8 @@ impl Rule {
     }
 }
 
-// The bounds, the windows and the rule of two stays are written here once more, since the library's own
-// are what is compared.
+// The bounds, the windows and the rule of two stays are written once more in this file, since the
+// library's own are what is compared.
 pub fn within_bounds(ring: Ring, stay: &Stay) -> bool
     ensures { Tells result (StayBounds ring.ticks stay.now) }
 {
@@ -104,7 +110,8 @@ pub struct Placed<'a> {
 }
 
 impl Placed<'_> {
-    // Whether there is room, at p/q, for the trail of this stay and the lead of the next.
+    // Whether there is room, at p/q, for the trail of this stay and the lead of the next. Not the
+    // library's own, which is compared.
     pub fn apart(self, p: u32, q: u32, next: Placed) -> bool
         ensures { Tells result (Apart p q self.entry.stay.now self.entry.time next.entry.stay.now next.entry.time) }
     {
@@ -112,7 +119,9 @@ impl Placed<'_> {
         end + product(p, next.stay.lead) as u128 <= q as u128 * next.time as u128
     }
 
-    fn in_window(self, ring: Ring) -> bool {
+    fn in_window(self, ring: Ring) -> bool
+        ensures { self.entry.stay.now.window.from < ring.ticks → Tells result (Holds ring.ticks self.entry.stay.now.window self.entry.time) }
+    {
         lies_in(ring, self.stay.window, self.time)
     }
 }
@@ -132,6 +141,7 @@ where
     requires can { I.can_next others }
     requires ends { IsFinite (I.remaining others) }
     requires calls { F.IsAlwaysCallable step }
+    ensures { first.entry.stay.now.window.from < ring.ticks → IfSome result (λ _. Holds ring.ticks first.entry.stay.now.window first.entry.time) }
 {
     if !first.in_window(ring) {
         return None;
@@ -175,7 +185,7 @@ impl Iterator for Times {
 }
 
 // How many numbers have a digit for each stay, in a base, and one more digit in the base `first`.
-pub fn how_many(first: u64, base: u64, stays: &[Stay]) -> u64 {
+fn how_many(first: u64, base: u64, stays: &[Stay]) -> u64 {
     stays
         .iter()
         .fold(first, |numbers, _| numbers.saturating_mul(base))
@@ -201,6 +211,7 @@ impl<'a> List<'a> {
     pub fn positions_fit(self, heap: Global, place: &Seating) -> Result<bool, AllocError> {
         let ticks = self.ring.ticks() as u64;
         let mut number = 0u64;
+        // by index, since the seating names its stays by theirs
         for stay in (0..self.stays.len()).rev() {
             let Some(time) = time_of(place, stay) else {
                 return Ok(false);
@@ -232,11 +243,8 @@ impl<'a> List<'a> {
     }
 
     fn all_in_windows(self, positions: Times) -> bool {
-        self.stays.iter().zip(positions).all(|(stay, position)| lies_in(
-            self.ring,
-            stay.window,
-            position as u64,
-        ))
+        let mut placed = self.stays.iter().zip(positions);
+        placed.all(|(stay, position)| lies_in(self.ring, stay.window, position as u64))
     }
 
     fn none_overlap(self, positions: Times, marks: &mut [bool]) -> bool {
@@ -288,6 +296,7 @@ impl<'a> Rounds<'a> {
         step: F,
     ) -> Option<A>
         requires { F.IsAlwaysCallable step }
+        ensures { self.entry.first.now.window.from < self.entry.ring.ticks → IfSome result (λ _. Holds self.entry.ring.ticks self.entry.first.now.window (number % self.entry.ring.ticks)) }
     {
         let ticks = self.ring.ticks();
         let start = (number % ticks as u64) as u32;

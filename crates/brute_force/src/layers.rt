@@ -1,4 +1,6 @@
 // What layers above a seater make of a list, from their rules alone.
+ghost use Rattle.std.specs.Prelude.{◌≡◌, Ok, vec_len};
+
 use crate::cases::Case;
 use crate::definition::{Answer, List, Rule, within_bounds};
 use placement::Stay;
@@ -14,7 +16,9 @@ pub enum Layer {
 
 // What a seater under layers, told from the top, says of the list of a case. The empty list is always
 // seated.
-pub fn expect(heap: Global, rule: Rule, layers: &[Layer], case: &Case) -> Answer {
+pub fn expect(heap: Global, rule: Rule, layers: &[Layer], case: &Case) -> Answer
+    ensures { vec_len case.now.stays ≡ 0 → result ≡ Ok tt }
+{
     if case.stays.is_empty() {
         return Ok(());
     }

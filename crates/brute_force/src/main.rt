@@ -82,7 +82,7 @@ struct Comparison<'a> {
 impl Comparison<'_> {
     // Compares the seater that is made for each case, one under these layers by the rules; gives how
     // many disagreements there are.
-    fn of<S: Seater + Drop, F: Fn(&Case) -> S>(
+    fn pile<S: Seater + Drop, F: Fn(&Case) -> S>(
         self,
         name: &str,
         layers: &[Layer],
@@ -115,13 +115,7 @@ fn under_margin<S>(below: S, case: &Case) -> Margin<S> {
 }
 
 // Compares a seater alone and under each pile of layers; gives how many disagreements there are.
-fn compare_seater<S: Seater + Copy + Drop>(
-    rt: &HostRuntime,
-    seater: S,
-    rule: Rule,
-    cases: &[Case],
-) -> anyhow::Result<u64> {
-    let compare = Comparison { rt, rule, cases };
+fn compare_seater<S: Seater + Copy + Drop>(compare: Comparison, seater: S) -> anyhow::Result<u64> {
     let depot = |case: &Case| under_depot(seater, case);
     let margin = |case: &Case| under_margin(seater, case);
     let depot_first = |case: &Case| under_depot(under_margin(seater, case), case);
@@ -129,17 +123,19 @@ fn compare_seater<S: Seater + Copy + Drop>(
     let both = [Layer::Depot, Layer::Margin];
     let turned = [Layer::Margin, Layer::Depot];
     let disagreements = [
-        compare.of("", &[], |_| seater)?,
-        compare.of(" under a depot", &[Layer::Depot], depot)?,
-        compare.of(" under a margin", &[Layer::Margin], margin)?,
-        compare.of(" under a depot over a margin", &both, depot_first)?,
-        compare.of(" under a margin over a depot", &turned, margin_first)?,
+        compare.pile("", &[], |_| seater)?,
+        compare.pile(" under a depot", &[Layer::Depot], depot)?,
+        compare.pile(" under a margin", &[Layer::Margin], margin)?,
+        compare.pile(" under a depot over a margin", &both, depot_first)?,
+        compare.pile(" under a margin over a depot", &turned, margin_first)?,
     ];
-    Ok(
-        disagreements
-            .iter()
-            .fold(0u64, |sum, n| sum.saturating_add(*n)),
-    )
+    Ok(added(&disagreements))
+}
+
+fn added(counts: &[u64]) -> u64 {
+    counts
+        .iter()
+        .fold(0, |sum, count| sum.saturating_add(*count))
 }
 
 // What the rule says of the lists of n stays.
@@ -162,8 +158,9 @@ fn print_lengths(rt: &HostRuntime, cases: &[Case]) -> anyhow::Result<()> {
 
 // Compares every seater; gives how many disagreements there are.
 fn compare_seaters(rt: &HostRuntime, cases: &[Case]) -> anyhow::Result<u64> {
-    let list_order = compare_seater(rt, ListOrder, Rule::ListOrder, cases)?;
-    let any_order = compare_seater(rt, AnyOrder, Rule::AnyOrder, cases)?;
+    let by = |rule: Rule| Comparison { rt, rule, cases };
+    let list_order = compare_seater(by(Rule::ListOrder), ListOrder)?;
+    let any_order = compare_seater(by(Rule::AnyOrder), AnyOrder)?;
     Ok(list_order.saturating_add(any_order))
 }
 

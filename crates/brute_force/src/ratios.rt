@@ -1,7 +1,9 @@
 // The leeway of a list's own order, from the rules alone: every choice of whole times in the order is
 // tried, and of the least steps over their gaps the greatest is taken.
-ghost use Rattle.std.specs.Prelude.{◌*◌, ◌<◌};
+ghost use Rattle.std.specs.Prelude.{◌≡◌, ◌*◌, ◌<◌, Err, IfOk, length};
 ghost use Rattle.ring.specs.Questions.{Tells};
+ghost use Rattle.placement.specs.Arcs.{InBounds};
+ghost use Rattle.leeway.specs.declared.nos.NoLeeway.TheVariants.{NoStay};
 
 use crate::definition::{Placed, Rounds, all_within_bounds, go_round, product};
 use leeway::{NoLeeway, leeway, tightest_seating};
@@ -9,11 +11,12 @@ use placement::{Seating, Stay};
 use ring::{Fraction, Ring};
 use std::alloc::Global;
 
-// A step of whole ticks over the gap that it has to hold, which is not zero.
+// A step of whole ticks over the gap that it has to hold.
 #[derive(Clone, Copy)]
 pub struct Share {
     pub step: u64,
     pub gap: u32,
+    ghost some: { 0 < gap },
 }
 
 impl Share {
@@ -54,7 +57,10 @@ fn greatest_share(rounds: Rounds) -> Option<Share> {
 }
 
 // The greatest share of a list's own order, or why there is no leeway.
-pub fn expect_leeway(ring: Ring, stays: &[Stay]) -> Result<Share, NoLeeway> {
+pub fn expect_leeway(ring: Ring, stays: &[Stay]) -> Result<Share, NoLeeway>
+    ensures ok { IfOk result (λ share. (0 < share.step) × InBounds ring.ticks stays.now) }
+    ensures empty { length stays.now ≡ 0 → result ≡ Err NoStay }
+{
     let (first, others) = stays.split_first().ok_or(NoLeeway::NoStay)?;
     if !all_within_bounds(ring, stays) {
         return Err(NoLeeway::OutOfBounds);

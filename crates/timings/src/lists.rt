@@ -1,5 +1,5 @@
 // The lists that are seated, at the pace 1/1.
-ghost use Rattle.std.specs.Prelude.{◌≤◌};
+ghost use Rattle.std.specs.Prelude.{◌≡◌, ◌≤◌, IfOk, vec_len};
 
 use placement::{Stay, Window};
 use ring::Ring;
@@ -7,7 +7,9 @@ use std::alloc::{AllocError, Global};
 
 // The whole ring for each window, and lengths of 90, 91, 92 and so on. Twelve of these stays take
 // 1,146 ticks, and sixteen 1,560, in whatever order they come.
-pub fn whole_ring(heap: Global, ring: Ring, count: u32) -> Result<Vec<Stay>, AllocError> {
+pub fn whole_ring(heap: Global, ring: Ring, count: u32) -> Result<Vec<Stay>, AllocError>
+    ensures { IfOk result (λ stays. vec_len stays ≡ count) }
+{
     (0..count)
         .map(|i| Stay {
             window: Window {
@@ -22,7 +24,9 @@ pub fn whole_ring(heap: Global, ring: Ring, count: u32) -> Result<Vec<Stay>, All
 
 // 64 stays that leave a twentieth of a day free, and have a seating in their own order: their windows
 // follow one another, and each is several stays long.
-pub fn nearly_full(heap: Global) -> Result<Vec<Stay>, AllocError> {
+pub fn nearly_full(heap: Global) -> Result<Vec<Stay>, AllocError>
+    ensures { IfOk result (λ stays. vec_len stays ≡ 64) }
+{
     let mut x = 12_345;
     (0..64u32)
         .map(|i| {
@@ -42,6 +46,7 @@ pub fn nearly_full(heap: Global) -> Result<Vec<Stay>, AllocError> {
 // Windows of 6,001 positions that begin here and there on the ring, and lengths up to `longest`.
 pub fn spread(heap: Global, ring: Ring, count: u32, longest: u32) -> Result<Vec<Stay>, AllocError>
     requires { 1 ≤ longest }
+    ensures { IfOk result (λ stays. vec_len stays ≡ count) }
 {
     let mut x = 12_345;
     (0..count)
