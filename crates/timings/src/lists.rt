@@ -1,5 +1,5 @@
 // The lists that are seated, at the pace 1/1.
-ghost use Rattle.std.specs.Prelude.{◌≡◌, ◌≤◌, IfOk, vec_len};
+ghost use Rattle.std.specs.Prelude.{◌≡◌, IfOk, vec_len};
 
 use placement::{Stay, Window};
 use ring::Ring;
@@ -45,9 +45,9 @@ pub fn nearly_full(heap: Global) -> Result<Vec<Stay>, AllocError>
 
 // Windows of 6,001 positions that begin here and there on the ring, and lengths up to `longest`.
 pub fn spread(heap: Global, ring: Ring, count: u32, longest: u32) -> Result<Vec<Stay>, AllocError>
-    requires { 1 ≤ longest }
     ensures { IfOk result (λ stays. vec_len stays ≡ count) }
 {
+    let longest = longest.max(1);
     let mut x = 12_345;
     (0..count)
         .map(|_| {
