@@ -7,8 +7,8 @@ use Rattle.placement.specs.Seatings.{Plan, Order, Lawful}
 use Rattle.placement.specs.Arcs.{Fits, InBounds, OnRing}
 use Rattle.placement.specs.declared.stays.Stay.{Stay}
 use Rattle.seaters.specs.Meanings.{Meaning}
-use Rattle.seaters.specs.declared.nos.NotSeated.{NotSeated}
-use Rattle.seaters.specs.declared.nos.NotSeated.TheVariants.{NotTaken, NoneGranted, NoMemory}
+use Rattle.seaters.specs.declared.errors.NotSeated.{NotSeated}
+use Rattle.seaters.specs.declared.errors.NotSeated.TheVariants.{NotTaken, NoneGranted, NoMemory}
 
 -- At most 12 stays, each within its bounds.
 abbrev pub TakesFew : Ring → List Stay → Type 0

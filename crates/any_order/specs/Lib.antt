@@ -1,4 +1,4 @@
 pub mod AnyOrders
 pub mod Worked
 pub mod Granting
-pub mod Nos
+pub mod Errors

@@ -4,7 +4,7 @@ ghost use Rattle.seaters.specs.Meanings.{Told};
 ghost use Rattle.any_order.specs.AnyOrders.{Decides, Fitted, SameInAnyOrder, any_order_means};
 ghost use Rattle.any_order.specs.Worked.{Worked};
 ghost use Rattle.any_order.specs.Granting.{any_order_rules};
-ghost use Rattle.any_order.specs.Nos.{by_search};
+ghost use Rattle.any_order.specs.Errors.{by_search};
 
 use placement::{Seating, Stay};
 use ring::{Pace, Ring};
@@ -17,7 +17,8 @@ use std::alloc::Global;
 #[derive(Clone, Copy)]
 pub struct AnyOrder;
 
-// What it says of the seater that a search gives no seating.
+// What it says of the seater that a search gives no seating; no From, since both types are of other
+// crates.
 fn not_seated(no: NotFound) -> NotSeated
     ensures { result ≡ by_search no }
 {

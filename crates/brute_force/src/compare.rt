@@ -1,6 +1,6 @@
 // A seater's answers, held to what the rules say.
 ghost use Rattle.std.specs.Prelude.{◌≡◌, ◌≢◌, Err, MatchResult};
-ghost use Rattle.seaters.specs.declared.nos.NotSeated.TheVariants.{NoMemory};
+ghost use Rattle.seaters.specs.declared.errors.NotSeated.TheVariants.{NoMemory};
 
 use crate::cases::Case;
 use crate::definition::{Answer, Rule};

@@ -6,7 +6,7 @@ ghost use Rattle.ring.specs.Questions.{Tells};
 ghost use Rattle.placement.specs.Arcs.{InBounds};
 ghost use Rattle.placement.specs.Stays.{Apart, StayBounds};
 ghost use Rattle.placement.specs.Windows.{Holds};
-ghost use Rattle.seaters.specs.declared.nos.NotSeated.TheVariants.{NotTaken};
+ghost use Rattle.seaters.specs.declared.errors.NotSeated.TheVariants.{NotTaken};
 
 use placement::{Seating, Stay, Window};
 use ring::{Pace, Ring};

@@ -3,7 +3,7 @@
 ghost use Rattle.std.specs.Prelude.{◌≡◌, ◌*◌, ◌<◌, Err, IfOk, length};
 ghost use Rattle.ring.specs.Questions.{Tells};
 ghost use Rattle.placement.specs.Arcs.{InBounds};
-ghost use Rattle.leeway.specs.declared.nos.NoLeeway.TheVariants.{NoStay};
+ghost use Rattle.leeway.specs.declared.errors.NoLeeway.TheVariants.{NoStay};
 
 use crate::definition::{Placed, Rounds, all_within_bounds, go_round, product};
 use leeway::{NoLeeway, leeway, tightest_seating};

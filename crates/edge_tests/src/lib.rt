@@ -5,7 +5,7 @@
 
 #[cfg(test)]
 mod files {
-    use ring::Refusal;
+    use ring::{Fault, Refusal};
     use round_file::{Header, Listing, Reader};
     use std::alloc::Global;
     use std::test::Fail;
@@ -45,18 +45,16 @@ mod files {
         [a, b, c, d, e, f, g, h, i, j]
     }
 
-    // What a file is told to be: records read, the fault's record and number (0 and 0 for none), bytes
-    // unread.
-    fn told(heap: Global, bytes: &[u8]) -> (usize, u8, u8, usize) {
+    // Records read, the fault's record and number, bytes unread.
+    type Told = (usize, Option<(u8, u8)>, usize);
+
+    fn told(heap: Global, bytes: &[u8]) -> Told {
+        let of_fault = |fault: Fault| (fault.record, fault.refusal.number());
         match Listing::read(heap, bytes) {
-            Err(fault) => (0, fault.record, fault.refusal.number(), 0),
+            Err(fault) => (0, Some(of_fault(fault)), 0),
             Ok(listing) => {
                 let read = listing.records.len();
-                let left = listing.left;
-                match listing.fault {
-                    None => (read, 0, 0, left),
-                    Some(fault) => (read, fault.record, fault.refusal.number(), left),
-                }
+                (read, listing.fault.map(of_fault), listing.left)
             }
         }
     }
@@ -65,33 +63,34 @@ mod files {
     fn headers(rt: HostRuntime) {
         let heap = rt.alloc();
         let empty = header(1, 100, 1, 1, 0);
-        assert_eq!(rt; told(heap, &empty[0..5]), (0, 0, 12, 0));
-        assert_eq!(rt; told(heap, &empty), (0, 0, 0, 0));
+        assert_eq!(rt; told(heap, &empty[0..5]), (0, Some((0, 12)), 0));
+        assert_eq!(rt; told(heap, &empty), (0, None, 0));
         let table = [
-            (header(0, 100, 1, 1, 0), 13),
-            (header(2, 100, 1, 1, 65), 13),
-            (header(1, 0, 1, 1, 65), 14),
-            (header(1, 0, 0, 1, 64), 1),
-            (header(1, 86_401, 1, 1, 0), 1),
-            (header(1, 86_400, 0, 1, 0), 2),
-            (header(1, 1, 1_001, 1, 0), 2),
-            (header(1, 1, 1_000, 0, 0), 2),
-            (header(1, 1, 1_000, 1_001, 0), 2),
-            (header(1, 86_400, 1_000, 1_000, 0), 0),
+            (header(0, 100, 1, 1, 0), Some(13)),
+            (header(2, 100, 1, 1, 65), Some(13)),
+            (header(1, 0, 1, 1, 65), Some(14)),
+            (header(1, 0, 0, 1, 64), Some(1)),
+            (header(1, 86_401, 1, 1, 0), Some(1)),
+            (header(1, 86_400, 0, 1, 0), Some(2)),
+            (header(1, 1, 1_001, 1, 0), Some(2)),
+            (header(1, 1, 1_000, 0, 0), Some(2)),
+            (header(1, 1, 1_000, 1_001, 0), Some(2)),
+            (header(1, 86_400, 1_000, 1_000, 0), None),
         ];
         for (bytes, number) in table.iter() {
-            assert_eq!(rt; told(heap, bytes), (0, 0, *number, 0));
+            assert_eq!(rt; told(heap, bytes), (0, number.map(|n| (0, n)), 0));
         }
-        assert_eq!(rt; told(heap, &header(1, 100, 1, 1, 64)), (0, 1, 12, 0));
+        assert_eq!(rt;
+            told(heap, &header(1, 100, 1, 1, 64)),
+            (0, Some((1, 12)), 0)
+        );
     }
 
     // A file with one record, and `note` bytes behind it, on a ring of 100 ticks.
     fn file_of(heap: Global, fields: Fields, note: usize) -> Result<Vec<u8>, Fail> {
         let mut bytes = header(1, 100, 1, 1, 1).to_vec(heap)?;
         bytes.extend_from_slice(&record(fields))?;
-        for _ in 0..note {
-            bytes.push(7)?;
-        }
+        bytes.resize(bytes.len().saturating_add(note), 7)?;
         Ok(bytes)
     }
 
@@ -110,22 +109,22 @@ mod files {
     fn records(rt: HostRuntime) -> Result<(), Fail> {
         let heap = rt.alloc();
         let table = [
-            (unnoted(0, 3, 0, 0, 1), 3),
-            (unnoted(1, 3, 0, 0, 1), 4),
-            (unnoted(1_048_575, 0, 99, 99, 40_000), 0),
-            (unnoted(1, 0, 100, 0, 1), 4),
-            (unnoted(1, 1, 0, 100, 1), 4),
-            (unnoted(1, 1, 0, 0, 0), 4),
-            (unnoted(1, 1, 0, 0, 40_001), 4),
-            (unnoted(1, 2, 0, 0, 0), 4),
-            (unnoted(1, 2, 0, 0, 1_023), 0),
-            (unnoted(1, 2, 0, 0, 1_024), 4),
+            (unnoted(0, 3, 0, 0, 1), Some(3)),
+            (unnoted(1, 3, 0, 0, 1), Some(4)),
+            (unnoted(1_048_575, 0, 99, 99, 40_000), None),
+            (unnoted(1, 0, 100, 0, 1), Some(4)),
+            (unnoted(1, 1, 0, 100, 1), Some(4)),
+            (unnoted(1, 1, 0, 0, 0), Some(4)),
+            (unnoted(1, 1, 0, 0, 40_001), Some(4)),
+            (unnoted(1, 2, 0, 0, 0), Some(4)),
+            (unnoted(1, 2, 0, 0, 1_023), None),
+            (unnoted(1, 2, 0, 0, 1_024), Some(4)),
         ];
         for (given, number) in table.iter() {
             let bytes = file_of(heap, *given, 0)?;
             let expected = match *number {
-                0 => (1, 0, 0, 0),
-                _ => (0, 1, *number, 10),
+                None => (1, None, 0),
+                Some(number) => (0, Some((1, number)), 10),
             };
             assert_eq!(rt; told(heap, bytes.as_slice()), expected);
         }
@@ -147,10 +146,10 @@ mod files {
         assert!(rt; whole.len() == 20);
         // the record's bytes one short, the note's one short, none left, one left
         let table = [
-            (15, (0, 1, 12, 9)),
-            (18, (0, 1, 12, 12)),
-            (19, (1, 0, 0, 0)),
-            (20, (1, 1, 16, 1)),
+            (15, (0, Some((1, 12)), 9)),
+            (18, (0, Some((1, 12)), 12)),
+            (19, (1, None, 0)),
+            (20, (1, Some((1, 16)), 1)),
         ];
         for (size, expected) in table.iter() {
             assert!(rt; *size <= 20);
@@ -182,18 +181,24 @@ mod files {
 }
 
 #[cfg(test)]
-mod seatings {
-    use placement::{Seating, Stay, Window, is_order, own_order};
-    use ring::{Pace, Ring};
-    use std::test::Fail;
+mod stays {
+    use placement::{Stay, Window};
 
-    fn trailing(from: u32, width: u32, trail: u32) -> Stay {
+    pub fn trailing(from: u32, width: u32, trail: u32) -> Stay {
         Stay {
             window: Window { from, width },
             lead: 0,
             trail,
         }
     }
+}
+
+#[cfg(test)]
+mod seatings {
+    use crate::stays::trailing;
+    use placement::{Seating, Window, is_order, own_order};
+    use ring::{Pace, Ring};
+    use std::test::Fail;
 
     #[test]
     fn own_orders(rt: HostRuntime) -> Result<(), Fail> {
@@ -259,23 +264,19 @@ mod seatings {
 
 #[cfg(test)]
 mod searches {
-    use placement::{Stay, Window};
+    use crate::stays::trailing;
     use ring::{Pace, Ring};
     use search::{NotFound, search};
     use std::test::Fail;
 
-    fn trailing(width: u32, trail: u32) -> Stay {
-        Stay {
-            window: Window { from: 0, width },
-            lead: 0,
-            trail,
-        }
-    }
-
     // Lengths 60, 30 and 30 fill a ring of 120.
     #[test]
     fn three(rt: HostRuntime) -> Result<(), Fail> {
-        let list = [trailing(90, 60), trailing(90, 30), trailing(90, 30)];
+        let list = [
+            trailing(0, 90, 60),
+            trailing(0, 90, 30),
+            trailing(0, 90, 30),
+        ];
         let pace = Pace::new(1, 1)?;
         let (fits, short) = (Ring::new(120)?, Ring::new(119)?);
         let seating = search(rt.alloc(), fits, pace, &list)?;
@@ -289,7 +290,7 @@ mod searches {
     #[test]
     fn refusals(rt: HostRuntime) -> Result<(), Fail> {
         let (ring, pace) = (Ring::new(100)?, Pace::new(1, 1)?);
-        let wide = [trailing(100, 1); 65];
+        let wide = [trailing(0, 100, 1); 65];
         let refusal = search(rt.alloc(), ring, pace, &wide).err();
         assert_eq!(rt; refusal, Some(NotFound::TooMany));
         let refusal = search(rt.alloc(), ring, pace, &wide[1..]).err();
@@ -304,7 +305,7 @@ mod searches {
         let text = format!(in rt.alloc(); "{many}, {out}, {none}, {memory}")?;
         assert_eq!(rt;
             text.as_str(),
-            "more than 64 stays, a stay out of bounds, no lawful seating, out of memory"
+            "more than 64 stays, a stay is out of bounds, no lawful seating, no memory"
         );
         Ok(())
     }

@@ -13,6 +13,7 @@ fn print_header(rt: &HostRuntime, header: Header) -> io::Result<()> {
     println!(rt; "ring {}, pace {pace}, records {count}", ring.ticks())
 }
 
+// The window and the arms by their numbers: nothing here rests on the crate of stays.
 fn print_record(rt: &HostRuntime, index: usize, record: &Record) -> io::Result<()> {
     let (kind, number) = (record.kind(), record.number());
     let RawDetails {
@@ -43,6 +44,7 @@ fn print_arms(rt: &HostRuntime, record: &Record) -> io::Result<()> {
 
 // Prints what stands in the file, and gives its fault where there is one.
 fn inspect(rt: &HostRuntime, bytes: &[u8]) -> io::Result<Option<Fault>> {
+    // a fault is an answer here and not an error of this function, so no `?`
     match at_record(Header::open(bytes), 0) {
         Ok(header) => print_header(rt, header)?,
         Err(fault) => return Ok(Some(fault)),

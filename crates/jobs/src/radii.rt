@@ -1,7 +1,7 @@
 ghost use Rattle.std.specs.Prelude.{◌≡◌, ℕ, ◌<◌, ◌≤◌, T, length, MatchOption, slice_index};
 ghost use Rattle.jobs.specs.Radii.{Radius, OneRadius, WorkedRadii, every, is_radius};
 
-// The radius of each value, 0 to 1,023.
+// The radius of each value, 0 to 1,023: a constant table, a rule of the project.
 const RADII: [u16; 1024] = [
     0, 10, 14, 17, 20, 22, 24, 26, 28, 30, 31, 33, 34, 36, 37, 38, 40, 41, 42, 43, 44, 45, 46, 47,
     48, 50, 50, 51, 52, 53, 54, 55, 56, 57, 58, 59, 60, 60, 61, 62, 63, 64, 64, 65, 66, 67, 67, 68,

@@ -14,8 +14,8 @@ use Rattle.ring.specs.Questions.{Tells}
 use Rattle.trials.specs.Trials.{Answers, Given}
 use Rattle.std.specs.Prelude.{Result, Ok, Err}
 use Rattle.placement.specs.declared.seatings.Seating.{Seating}
-use Rattle.trials.specs.declared.nos.NoSeating.{NoSeating}
-use Rattle.trials.specs.declared.nos.NoSeating.TheVariants.{OutOfBounds, NotAnOrder, NoneCloses, NoMemory}
+use Rattle.trials.specs.declared.errors.NoSeating.{NoSeating}
+use Rattle.trials.specs.declared.errors.NoSeating.TheVariants.{OutOfBounds, NotAnOrder, NoneCloses, NoMemory}
 use Rattle.trials.proofs.Pushes.{length_turned}
 use Rattle.leeway.specs.Leeways.{Asked, BegunAs, Decided, SeatsIn, Shown, is_seated}
 

@@ -9,11 +9,11 @@ use Rattle.placement.specs.declared.stays.Stay.{Stay}
 use Rattle.ring.specs.Questions.{Tells}
 use Rattle.trials.specs.Trials.{Answers as TriedAnswers, Given}
 use Rattle.placement.specs.declared.seatings.Seating.{Seating}
-use Rattle.trials.specs.declared.nos.NoSeating.{NoSeating}
-use Rattle.trials.specs.declared.nos.NoSeating.TheVariants.{NoMemory as NoTrial}
-use Rattle.leeway.specs.declared.nos.NoLeeway.{NoLeeway}
+use Rattle.trials.specs.declared.errors.NoSeating.{NoSeating}
+use Rattle.trials.specs.declared.errors.NoSeating.TheVariants.{NoMemory as NoTrial}
+use Rattle.leeway.specs.declared.errors.NoLeeway.{NoLeeway}
 use Rattle.leeway.specs.declared.leeways.Tightest.{Tightest}
-use Rattle.leeway.specs.declared.nos.NoLeeway.TheVariants.{NoStay, OutOfBounds, NotAnOrder, NoRoom, NoMemory}
+use Rattle.leeway.specs.declared.errors.NoLeeway.TheVariants.{NoStay, OutOfBounds, NotAnOrder, NoRoom, NoMemory}
 
 -- At the fraction p/q the list has a seating in the order os, over whole ticks.
 pub record SeatsIn (C p q : ℕ) (l : List Stay) (os : List ℕ) : Type 0 where

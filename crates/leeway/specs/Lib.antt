@@ -1,4 +1,4 @@
 pub mod Leeways
 pub mod Laws
 pub mod Worked
-pub mod Nos
+pub mod Errors

@@ -1,9 +1,9 @@
-ghost use Rattle.std.specs.Prelude.{◌≡◌, ◌<◌, ◌≤◌, length, MatchResult};
+ghost use Rattle.std.specs.Prelude.{◌≡◌, ◌<◌, ◌≤◌, length};
 ghost use Rattle.ring.specs.Questions.{Tells};
 ghost use Rattle.leeway.specs.Leeways.{Asked, Decided, Greatest, Kept, Largest, Raised, SeatsIn, gap_at};
-ghost use Rattle.leeway.specs.declared.nos.NoLeeway.TheVariants.{NoMemory};
+ghost use Rattle.leeway.specs.Errors.{UnlessMemory};
 
-use crate::nos::NoLeeway;
+use crate::errors::NoLeeway;
 use placement::Stay;
 use ring::{Ratio, Ring};
 use std::alloc::Global;
@@ -26,7 +26,7 @@ pub fn trials_decide(ring: Ring, ratio: Ratio, stays: &[Stay], order: &[usize])
 impl Course<'_> {
     // Whether the list has a seating in the order at the fraction.
     fn seats(self, heap: Global, ratio: Ratio) -> Result<bool, NoLeeway>
-        ensures { MatchResult result (λ b. Tells b (SeatsIn self.entry.ring.ticks ratio.over ratio.under self.entry.stays.now self.entry.order.now)) (λ e. e ≡ NoMemory) }
+        ensures { UnlessMemory (λ b. Tells b (SeatsIn self.entry.ring.ticks ratio.over ratio.under self.entry.stays.now self.entry.order.now)) result }
     {
         trials_decide(self.ring, ratio, self.stays, self.order);
         match try_order(heap, self.ring, ratio, self.stays, self.order) {
@@ -40,7 +40,7 @@ impl Course<'_> {
     // `from`.
     fn largest(self, heap: Global, from: Ratio) -> Result<u32, NoLeeway>
         requires { Kept self.ring.ticks self.stays.now self.order.now from }
-        ensures { MatchResult result (λ d. Largest self.entry.ring.ticks from.under self.entry.stays.now self.entry.order.now d × (from.over ≤ d)) (λ e. e ≡ NoMemory) }
+        ensures { UnlessMemory (λ d. Largest self.entry.ring.ticks from.under self.entry.stays.now self.entry.order.now d × (from.over ≤ d)) result }
     {
         let mut low = from.over();
         let mut high = self.ring.ticks() + 1;
@@ -59,7 +59,7 @@ impl Course<'_> {
     // where one tick more than the best still has a seating.
     fn raised(self, heap: Global, best: Ratio, gap: u32) -> Result<Ratio, NoLeeway>
         requires { Kept self.ring.ticks self.stays.now self.order.now best }
-        ensures { MatchResult result (λ f. Raised self.entry.ring.ticks self.entry.stays.now self.entry.order.now best gap f) (λ e. e ≡ NoMemory) }
+        ensures { UnlessMemory (λ f. Raised self.entry.ring.ticks self.entry.stays.now self.entry.order.now best gap f) result }
     {
         let next = best.over() as u64 * gap as u64 / best.under() as u64 + 1;
         if next > self.ring.ticks() as u64 {
@@ -80,6 +80,7 @@ impl Course<'_> {
         requires { k < length self.stays.now }
         ensures { result ≡ gap_at self.entry.stays.now self.entry.order.now k }
     {
+        // as next_place is defined
         let next = if k + 1 < self.stays.len() { k + 1 } else { 0 };
         self.stays[self.order[k]].trail + self.stays[self.order[next]].lead
     }
@@ -87,10 +88,10 @@ impl Course<'_> {
     // The greatest fraction, gap by gap.
     pub fn greatest(self, heap: Global) -> Result<Ratio, NoLeeway>
         requires { SeatsIn self.ring.ticks 0 1 self.stays.now self.order.now }
-        ensures { MatchResult result (λ f. Greatest self.entry.ring.ticks self.entry.stays.now self.entry.order.now f) (λ e. e ≡ NoMemory) }
+        ensures { UnlessMemory (λ f. Greatest self.entry.ring.ticks self.entry.stays.now self.entry.order.now f) result }
     {
         let mut best = Ratio::whole(0);
-        // by index: of a zip with cycle and skip it is not proved that its indexes are in range
+        // by index: tried with zip, cycle and skip, that the indexes are in range stayed unproved
         for k in 0..self.stays.len() {
             best = self.raised(heap, best, self.gap_after(k))?;
         }

@@ -4,7 +4,7 @@ ghost use Rattle.leeway.specs.Leeways.{Answers, Asked, SeatsIn, Settled, Shows};
 ghost use Rattle.leeway.specs.Worked.{Worked};
 
 use crate::courses::{Course, trials_decide};
-use crate::nos::NoLeeway;
+use crate::errors::NoLeeway;
 use placement::{Seating, Stay};
 use ring::{Fraction, Ratio, Ring};
 use std::alloc::Global;
@@ -23,9 +23,14 @@ fn greatest_settles(ring: Ring, stays: &[Stay], order: &[usize])
     ensures worked { Worked }
 {}
 
-// Whether there is a leeway to look for: the list has a seating in the order at zero.
-fn asked(heap: Global, ring: Ring, stays: &[Stay], order: &[usize]) -> Result<(), NoLeeway>
-    ensures { MatchResult result (λ _. Asked ring.ticks stays.now order.now × SeatsIn ring.ticks 0 1 stays.now order.now) (λ e. Answers ring.ticks stays.now order.now (Err e)) }
+// What a leeway is looked for in: the list has a seating in the order at zero.
+fn course<'a>(
+    heap: Global,
+    ring: Ring,
+    stays: &'a [Stay],
+    order: &'a [usize],
+) -> Result<Course<'a>, NoLeeway>
+    ensures { MatchResult result (λ c. (c.ring ≡ ring) × (c.stays.now ≡ stays.now) × (c.order.now ≡ order.now) × SeatsIn ring.ticks 0 1 stays.now order.now) (λ e. Answers ring.ticks stays.now order.now (Err e)) }
 {
     let zero = Ratio::whole(0);
     greatest_settles(ring, stays, order);
@@ -34,7 +39,7 @@ fn asked(heap: Global, ring: Ring, stays: &[Stay], order: &[usize]) -> Result<()
         return Err(NoLeeway::NoStay);
     }
     try_order(heap, ring, zero, stays, order)?;
-    Ok(())
+    Ok(Course { ring, stays, order })
 }
 
 // The greatest fraction in lowest terms.
@@ -62,9 +67,7 @@ pub fn leeway(
     ensures worked { Worked }
 {
     greatest_settles(ring, stays, order);
-    asked(heap, ring, stays, order)?;
-    let course = Course { ring, stays, order };
-    above_zero(heap, course)
+    above_zero(heap, course(heap, ring, stays, order)?)
 }
 
 // The leeway, and a lawful seating at it: the one with the least slack.
@@ -80,6 +83,7 @@ pub fn tightest_seating(
     let leeway = leeway(heap, ring, stays, order)?;
     let ratio = Ratio::from(leeway);
     trials_decide(ring, ratio, stays, order);
+    // at its leeway the order has a seating, so only memory may be wanting
     match try_order(heap, ring, ratio, stays, order) {
         Ok(mut seating) => {
             seating.begin_again(ring, 0);

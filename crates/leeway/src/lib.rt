@@ -7,8 +7,8 @@
 #![tactic(auto)]
 
 mod courses;
+mod errors;
 mod leeways;
-mod nos;
 
+pub use errors::NoLeeway;
 pub use leeways::{Tightest, leeway, tightest_seating};
-pub use nos::NoLeeway;

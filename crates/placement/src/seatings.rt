@@ -54,68 +54,6 @@ pub fn is_order(order: &[usize], n: usize) -> bool
     true
 }
 
-// Whether the rules hold at the k-th place.
-fn is_fine(ring: Ring, pace: Pace, stays: &[Stay], order: &[usize], times: &[u64], k: usize) -> bool
-    requires { (k < length stays.now) × ((Order (length stays.now) order.now) × ((length times.now ≡ length stays.now) × (slice_index times.now 0 < ring.ticks))) }
-    ensures { Tells result (Fine ring.ticks pace.p pace.q stays.now order.now times.now k) }
-{
-    let stay = stays[order[k]];
-    if !stay.window.holds(ring, times[k]) {
-        return false;
-    }
-    let next = k + 1;
-    if next < stays.len() {
-        stay.is_apart(pace.into(), times[k], &stays[order[next]], times[next])
-    } else {
-        stay.is_apart(
-            pace.into(),
-            times[k],
-            &stays[order[0]],
-            times[0] + ring.ticks() as u64,
-        )
-    }
-}
-
-fn rules_hold(ring: Ring, pace: Pace, stays: &[Stay], order: &[usize], times: &[u64]) -> bool
-    ensures { Tells result (Lawful ring.ticks pace.p pace.q stays.now (planned order.now times.now)) }
-{
-    let n = stays.len();
-    if times.len() != n {
-        return false;
-    }
-    if !is_order(order, n) {
-        return false;
-    }
-    if n == 0 {
-        return true;
-    }
-    if order[0] != 0 {
-        return false;
-    }
-    if times[0] >= ring.ticks() as u64 {
-        return false;
-    }
-    // by index, since a place is held to the next one; with `all` the goal stays open
-    for k in 0..n {
-        if !is_fine(ring, pace, stays, order, times, k) {
-            return false;
-        }
-    }
-    true
-}
-
-fn is_lawful(ring: Ring, pace: Pace, stays: &[Stay], seating: &Seating) -> bool
-    ensures { Tells result (Lawful ring.ticks pace.p pace.q stays.now (plan seating.now)) }
-{
-    rules_hold(
-        ring,
-        pace,
-        stays,
-        seating.order.as_slice(),
-        seating.times.as_slice(),
-    )
-}
-
 // What a lawful seating gives, and that nothing else fits.
 fn lawful_means(ring: Ring, pace: Pace, stays: &[Stay], seating: &Seating)
     ensures printed { PrintedRule }
@@ -210,6 +148,51 @@ impl Seating {
         Some((*time % ring.ticks() as u64) as u32)
     }
 
+    // Whether the rules hold at the k-th place.
+    fn is_fine(&self, ring: Ring, pace: Pace, stays: &[Stay], k: usize) -> bool
+        requires { (k < length stays.now) × ((Order (length stays.now) self.now.order.items) × ((length self.now.times.items ≡ length stays.now) × (slice_index self.now.times.items 0 < ring.ticks))) }
+        ensures { Tells result (Fine ring.ticks pace.p pace.q stays.now self.now.order.items self.now.times.items k) }
+    {
+        let (order, times) = (self.order.as_slice(), self.times.as_slice());
+        let stay = stays[order[k]];
+        let (next, then) = if k + 1 < stays.len() {
+            (k + 1, times[k + 1])
+        } else {
+            (0, times[0] + ring.ticks() as u64)
+        };
+        stay.window.holds(ring, times[k])
+            && stay.is_apart(pace.into(), times[k], &stays[order[next]], then)
+    }
+
+    fn is_lawful(&self, ring: Ring, pace: Pace, stays: &[Stay]) -> bool
+        ensures { Tells result (Lawful ring.ticks pace.p pace.q stays.now (plan self.now)) }
+    {
+        let (order, times) = (self.order.as_slice(), self.times.as_slice());
+        let n = stays.len();
+        if times.len() != n {
+            return false;
+        }
+        if !is_order(order, n) {
+            return false;
+        }
+        if n == 0 {
+            return true;
+        }
+        if order[0] != 0 {
+            return false;
+        }
+        if times[0] >= ring.ticks() as u64 {
+            return false;
+        }
+        // by index, since a place is compared with the next one: with `all` the goal stays open
+        for k in 0..n {
+            if !self.is_fine(ring, pace, stays, k) {
+                return false;
+            }
+        }
+        true
+    }
+
     // Whether the seating is lawful for the list; then its positions fit, at any pace that is no
     // greater too. Positions fit only if some lawful seating has them.
     pub fn lawful(&self, ring: Ring, pace: Pace, stays: &[Stay]) -> bool
@@ -219,7 +202,7 @@ impl Seating {
         ensures worked { WorkedSeatings }
     {
         lawful_means(ring, pace, stays, self);
-        is_lawful(ring, pace, stays, self)
+        self.is_lawful(ring, pace, stays)
     }
 
     fn is_sound(&self) -> bool
@@ -228,6 +211,7 @@ impl Seating {
         self.order.len() == self.times.len() && all_small(&self.times)
     }
 
+    // Sound is asked of a seating and not its invariant, since any lists may be handed in.
     fn turn(&mut self, ring: Ring, stay: usize)
         requires { Sound (plan self.old) }
         ensures begins { plan self.new ≡ begun_again ring.ticks stay (plan self.old) }

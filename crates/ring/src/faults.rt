@@ -21,7 +21,7 @@ impl Layer {
     }
 }
 
-// A refusal with the record at which it came: counted from 1, and 0 for the header.
+// A refusal with the record at which it came: counted from 1, and 0 for the header, as a fault is told.
 #[derive(Clone, Copy, PartialEq, Eq, Debug)]
 pub struct Fault {
     pub record: u8,

@@ -51,6 +51,7 @@ impl Fraction {
         self.under
     }
 
+    // The order of fractions, told by the products across.
     pub fn at_most(&self, other: &Fraction) -> bool
         ensures { Tells result (AtMost self.now.over self.now.under other.now.over other.now.under) }
     {

@@ -103,6 +103,7 @@ impl Ratio {
     pub fn with_over(self, over: u32) -> Ratio
         ensures { (result.over ≡ over) × (result.under ≡ self.under) }
     {
+        // `..self` is not to be had in a struct with a ghost field
         Ratio {
             over,
             under: self.under,

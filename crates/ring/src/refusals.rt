@@ -29,6 +29,7 @@ pub enum Refusal {
 }
 
 impl Refusal {
+    // a method, since its second clause is about all refusals
     pub fn number(self) -> u8
         ensures value { result ≡ number_of self }
         ensures apart { ToldApart }
@@ -45,6 +46,7 @@ impl From<AllocError> for Refusal {
     }
 }
 
+// A list that takes no more gives this error, and an allocator the one above.
 impl<T: Drop> From<AllocFailed<T>> for Refusal {
     ghost from_gives = { λ _ r. r ≡ NoMemory };
 

@@ -1,5 +1,5 @@
 -- What a search answers.
-use Rattle.std.specs.Prelude.{ℕ, ◌<◌, ◌≤◌, List, ◌∷◌, length, Some, None, Option, Ok, Err, Result, slice_index_or}
+use Rattle.std.specs.Prelude.{ℕ, ◌<◌, ◌≤◌, List, ◌∷◌, length, Some, None, Option, Ok, Err, Result, slice_index_or, codes}
 use Rattle.placement.specs.Stays.{no_stay}
 use Rattle.placement.specs.Seatings.{Plan, plan, planned, Seated, Lawful}
 use Rattle.placement.specs.Arcs.{InBounds}
@@ -34,3 +34,10 @@ FromAll C p q l (Err NoneLawful) = (s : Plan) → Lawful C p q l s → ⊥
 FromAll C p q l (Err NoMemory) = Unit {0}
 FromAll C p q l (Err TooMany) = ⊥
 FromAll C p q l (Err OutOfBounds) = ⊥
+
+-- How each no is written.
+abbrev pub no_text : NotFound → List ℕ
+no_text TooMany = codes "more than 64 stays"
+no_text OutOfBounds = codes "a stay is out of bounds"
+no_text NoneLawful = codes "no lawful seating"
+no_text NoMemory = codes "no memory"

@@ -1,4 +1,5 @@
-ghost use Rattle.std.specs.Prelude.{◌≡◌, ℕ, ◌<◌, ◌≤◌, [], ◌∷◌, length, IfOk, MatchOption, OnOk};
+ghost use Rattle.std.specs.Prelude.{◌≡◌, ℕ, ◌<◌, ◌≤◌, [], ◌∷◌, length, IfOk, MatchOption, OnOk, slice_index_or};
+ghost use Rattle.placement.specs.Stays.{no_stay};
 ghost use Rattle.placement.specs.Seatings.{plan};
 ghost use Rattle.search.specs.Partials.{Expanded, Full, Grown, Layered, Looked, Reads, Root, Soonest, Sound, nth};
 ghost use Rattle.search.specs.Tasks.{of_task};
@@ -112,17 +113,15 @@ pub fn from_start(
     task: Task,
     arena: &mut Arena,
     t: usize,
+    first: &Stay,
 ) -> Result<Option<Seating>, AllocError>
+    requires { (t < length task.stays.now) × (first.now ≡ slice_index_or task.stays.now t no_stay) }
     ensures { IfOk result (λ o. of_task FromStart task.entry t o) }
 {
-    if t >= task.stays.len() {
-        return Ok(None);
-    }
-    let first = task.stays[t];
-    let Some(room) = task.room_of(&first) else {
+    let Some(room) = task.room_of(first) else {
         return Ok(None);
     };
-    Start { task, room }.grow(arena, root(task, &first, t))?;
+    Start { task, room }.grow(arena, root(task, first, t))?;
     match arena.find_full(task.stays.len(), room) {
         None => Ok(None),
         Some(i) => Ok(Some(arena.read_back(heap, i)?)),

@@ -10,14 +10,15 @@ use std::alloc::{AllocError, Global};
 use std::collections::HashMap;
 
 // A seating of some of the stays: which, where the last of them ends, the last and its time, and the
-// place of the partial seating without it; the first has none.
+// place of the partial seating without it.
 #[derive(Clone, Copy)]
 pub struct Partial {
     pub set: StaySet,
     pub end: u64,
     pub last: usize,
     pub time: u64,
-    // a place, since many share it: an Rc would allocate for each, and be no plainer
+    // a place, since partial seatings are overwritten where they stand; 0 in the first, which is not
+    // asked for it
     pub parent: usize,
 }
 
@@ -87,7 +88,7 @@ impl Arena {
             }
             return Ok(());
         }
-        // room first, so that an error leaves it in neither
+        // space first, so that after an error it is in neither the list nor the map
         self.partials.reserve(1)?;
         self.places.insert(a.set, self.partials.len())?;
         self.partials.push(a).unwrap();
@@ -111,7 +112,7 @@ impl Arena {
         let mut order = Vec::new(heap);
         let mut times = Vec::new(heap);
         let mut i = at;
-        // by hand: that a chain of std along the places ends cannot be proved
+        // by hand: that an iterator along the places ends is not proved by its chain
         loop {
             let a = partials[i];
             order.push(a.last)?;

@@ -48,6 +48,7 @@ impl<'a> Start<'a> {
         let room = self.room as u128;
         let p = self.task.pace.p() as u128;
         let q = self.task.pace.q() as u128;
+        // div_ceil divides twice
         let low = (end as u128 + p * stay.lead as u128 + (q - 1)) / q;
         if low > room {
             return None;

@@ -1,7 +1,7 @@
-ghost use Rattle.std.specs.Prelude.{◌≡◌, ◌<◌, length};
+ghost use Rattle.std.specs.Prelude.{◌≡◌, ◌<◌, Some, length};
 ghost use Rattle.placement.specs.Seatings.{Lawful, Seated, no_plan, plan};
 ghost use Rattle.search.specs.Tasks.{of_task};
-ghost use Rattle.search.specs.Searches.{Answers, FromAll};
+ghost use Rattle.search.specs.Searches.{Answers, FromAll, no_text};
 ghost use Rattle.search.specs.declared.searches.NotFound.TheVariants.{NoMemory};
 
 use crate::layers::from_start;
@@ -22,18 +22,20 @@ pub enum NotFound {
     OutOfBounds,
     // the list has no lawful seating, in whatever order
     NoneLawful,
-    // the memory did not suffice
+    // memory was wanting
     NoMemory,
 }
 
 impl fmt::Display for NotFound {
+    ghost output = { λ no. Some (no_text no) };
+
     fn fmt<W: fmt::Write>(&self, f: &mut fmt::Formatter<W>) -> fmt::Result {
-        match self {
-            NotFound::TooMany => write!(f, "more than 64 stays"),
-            NotFound::OutOfBounds => write!(f, "a stay out of bounds"),
-            NotFound::NoneLawful => write!(f, "no lawful seating"),
-            NotFound::NoMemory => write!(f, "out of memory"),
-        }
+        f.write_str(match self {
+            NotFound::TooMany => "more than 64 stays",
+            NotFound::OutOfBounds => "a stay is out of bounds",
+            NotFound::NoneLawful => "no lawful seating",
+            NotFound::NoMemory => "no memory",
+        })
     }
 }
 
@@ -53,9 +55,8 @@ fn from_all(heap: Global, task: Task) -> Result<Seating, NotFound>
     ensures { of_task FromAll task.entry result }
 {
     let mut arena = Arena::new(heap);
-    // by index, since a start is told by its index
-    for t in 0..task.stays.len() {
-        if let Some(seating) = from_start(heap, task, &mut arena, t)? {
+    for (t, first) in task.stays.iter().enumerate() {
+        if let Some(seating) = from_start(heap, task, &mut arena, t, first)? {
             return Ok(seating);
         }
     }
@@ -67,7 +68,8 @@ fn empty_is_lawful(ring: Ring, pace: Pace, stays: &[Stay])
     ensures { length stays.now ≡ 0 → Lawful ring.ticks pace.p pace.q stays.now no_plan }
 {}
 
-// Begun again at the list's first stay, a seating that keeps the rules is lawful.
+// Begun again at the list's first stay, a seating that keeps the rules is lawful. The one of list order
+// says what that keeps of the order.
 #[tactic(auto, unfolding(placement::specs::Seatings::Lawful))]
 fn begin_at_first(ring: Ring, pace: Pace, stays: &[Stay], seating: &mut Seating)
     requires { (0 < length stays.now) × (Seated ring.ticks pace.p pace.q stays.now (plan seating.old)) }

@@ -23,7 +23,7 @@ fn stay_of(record: &Record) -> Option<Stay> {
     })
 }
 
-// The jobs of a file with their stays, one for each.
+// The jobs of a file, and their stays beside them, since a seater is lent the stays as a slice.
 #[derive(Clone, Copy)]
 struct Jobs<'a> {
     header: Header,
@@ -122,6 +122,7 @@ impl Jobs<'_> {
 
 // Seats the jobs of a file, and gives its fault where there is one.
 fn seat_list(rt: &HostRuntime, bytes: &[u8]) -> anyhow::Result<Option<Fault>> {
+    // a fault is an answer here and not an error of this function, so no `?`
     let header = match at_record(Header::open(bytes), 0) {
         Ok(header) => header,
         Err(fault) => return Ok(Some(fault)),

@@ -6,4 +6,4 @@ pub mod DepotRules
 pub mod ListRules
 pub mod Counting
 pub mod MarginRules
-pub mod Nos
+pub mod Errors

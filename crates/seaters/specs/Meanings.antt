@@ -8,8 +8,8 @@ use Rattle.placement.specs.Stays.{Narrowed, no_stay}
 use Rattle.placement.specs.Seatings.{Plan, Lawful, no_plan, time_of, without}
 use Rattle.placement.specs.Arcs.{InBounds}
 use Rattle.placement.specs.declared.stays.Stay.{Stay}
-use Rattle.seaters.specs.declared.nos.NotSeated.{NotSeated}
-use Rattle.seaters.specs.declared.nos.NotSeated.TheVariants.{NotTaken, NoneGranted, NoMemory}
+use Rattle.seaters.specs.declared.errors.NotSeated.{NotSeated}
+use Rattle.seaters.specs.declared.errors.NotSeated.TheVariants.{NotTaken, NoneGranted, NoMemory}
 
 -- Which lists a seater takes on a ring, which seatings of a list it grants at a pace, and which of
 -- them it may give.

@@ -4,7 +4,7 @@ ghost use Rattle.placement.specs.declared.stays.Stay.{Stay};
 ghost use Rattle.seaters.specs.Layers.{depot_means};
 ghost use Rattle.seaters.specs.DepotRules.{depot_rules};
 
-use crate::nos::NotSeated;
+use crate::errors::NotSeated;
 use crate::seaters::Seater;
 use placement::{Seating, Stay};
 use ring::{Pace, Ring};

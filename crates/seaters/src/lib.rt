@@ -8,15 +8,15 @@
 #![tactic(auto)]
 
 mod depot;
+mod errors;
 mod list_order;
 mod margin;
-mod nos;
 mod piles;
 mod seaters;
 
 pub use depot::Depot;
+pub use errors::NotSeated;
 pub use list_order::ListOrder;
 pub use margin::Margin;
-pub use nos::NotSeated;
 pub use piles::seat_between_depots;
 pub use seaters::Seater;

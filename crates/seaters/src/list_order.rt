@@ -6,7 +6,7 @@ ghost use Rattle.seaters.specs.Worked.{Worked};
 ghost use Rattle.seaters.specs.ListOrders.{Decided, FirstBegun, InListOrder, order_of_list, list_order_means};
 ghost use Rattle.seaters.specs.ListRules.{list_order_rules};
 
-use crate::nos::NotSeated;
+use crate::errors::NotSeated;
 use crate::seaters::Seater;
 use placement::{Seating, Stay, own_order};
 use ring::{Pace, Ring};

@@ -4,7 +4,7 @@ ghost use Rattle.placement.specs.Stays.{no_stay};
 ghost use Rattle.seaters.specs.Layers.{Widens, widened, margin_means};
 ghost use Rattle.seaters.specs.MarginRules.{margin_rules};
 
-use crate::nos::NotSeated;
+use crate::errors::NotSeated;
 use crate::seaters::Seater;
 use placement::{Seating, Stay};
 use ring::{Pace, Ring};
@@ -45,6 +45,7 @@ fn widen_all(heap: Global, stays: &[Stay], margin: u32) -> Result<Vec<Stay>, All
     requires { (k : ℕ) → k < length stays.now → (slice_index_or stays.now k no_stay).trail + margin ≤ 40000 }
     ensures { IfOk result (λ v. v.items ≡ map (widened margin) stays.now) }
 {
+    // tried with map and collect, that each trail can take the margin stayed unproved
     let mut list = Vec::new(heap);
     for stay in stays {
         list.push(widen(stay, margin))?;

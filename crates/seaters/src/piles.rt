@@ -5,8 +5,8 @@ ghost use Rattle.seaters.specs.Layers.{depot_means, margin_means};
 ghost use Rattle.seaters.specs.Meanings.{Told};
 
 use crate::depot::Depot;
+use crate::errors::NotSeated;
 use crate::margin::Margin;
-use crate::nos::NotSeated;
 use crate::seaters::Seater;
 use placement::{Seating, Stay};
 use ring::{Pace, Ring};

@@ -2,7 +2,7 @@ ghost use Rattle.std.specs.Prelude.{◌≡◌};
 ghost use Rattle.placement.specs.Seatings.{plan};
 ghost use Rattle.seaters.specs.Meanings.{Meaning, Rules, Told};
 
-use crate::nos::NotSeated;
+use crate::errors::NotSeated;
 use placement::{Seating, Stay};
 use ring::{Pace, Ring};
 use std::alloc::Global;
@@ -11,7 +11,8 @@ pub trait Seater {
     // which lists it takes, which seatings it grants, and which it may give
     ghost means: { Self → Meaning };
 
-    // Seats a list into the place. The place is left as it was where the list is not seated.
+    // Seats a list into the place, which is handed in by a rule of the project. The place is left as it
+    // was where the list is not seated.
     fn seat(
         &self,
         heap: Global,

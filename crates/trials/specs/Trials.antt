@@ -8,8 +8,8 @@ use Rattle.placement.specs.declared.stays.Stay.{Stay}
 use Rattle.ring.specs.Questions.{Tells}
 use Rattle.std.specs.declared.alloc.Global.{Global}
 use Rattle.placement.specs.declared.seatings.Seating.{Seating}
-use Rattle.trials.specs.declared.nos.NoSeating.{NoSeating}
-use Rattle.trials.specs.declared.nos.NoSeating.TheVariants.{OutOfBounds, NotAnOrder, NoneCloses, NoMemory}
+use Rattle.trials.specs.declared.errors.NoSeating.{NoSeating}
+use Rattle.trials.specs.declared.errors.NoSeating.TheVariants.{OutOfBounds, NotAnOrder, NoneCloses, NoMemory}
 
 -- The least time y of b that its window and the apart rule allow after a at x.
 pub record Least (C p q : ℕ) (a : Stay) (x : ℕ) (b : Stay) (y : ℕ) : Type 0 where

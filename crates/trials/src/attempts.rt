@@ -1,5 +1,4 @@
-ghost use Rattle.std.specs.Prelude.{◌≡◌, ◌∷◌, IfOk, MatchOption, slice_index_or};
-ghost use Rattle.placement.specs.Stays.{no_stay};
+ghost use Rattle.std.specs.Prelude.{◌≡◌, ◌∷◌, IfOk, MatchOption};
 ghost use Rattle.trials.specs.Trials.{Attempted, EndsIt, NoAttempt, Trial};
 
 use crate::next::next_time;
@@ -14,10 +13,11 @@ pub struct Attempt {
     pub closes: bool,
 }
 
-// The times of a trial, its last stay and that one's time.
+// The times of a trial, its first stay, its last and that one's time.
 #[derive(Drop)]
 struct Followed {
     times: Vec<u64>,
+    first: Stay,
     last: Stay,
     at: u64,
 }
@@ -30,15 +30,16 @@ fn follow(
     stays: &[Stay],
     head: usize,
     others: &[usize],
-    first: Stay,
 ) -> Result<Option<Followed>, AllocError>
-    requires { first ≡ slice_index_or stays.now head no_stay }
-    ensures { IfOk result (λ o. MatchOption o (NoAttempt ring.ticks ratio.over ratio.under stays.now (head ∷ others.now)) (λ f. Trial ring.ticks ratio.over ratio.under stays.now (head ∷ others.now) f.times.items × EndsIt ring.ticks ratio.over ratio.under stays.now (head ∷ others.now) f.times.items f.last f.at first)) }
+    ensures { IfOk result (λ o. MatchOption o (NoAttempt ring.ticks ratio.over ratio.under stays.now (head ∷ others.now)) (λ f. Trial ring.ticks ratio.over ratio.under stays.now (head ∷ others.now) f.times.items × EndsIt ring.ticks ratio.over ratio.under stays.now (head ∷ others.now) f.times.items f.last f.at f.first)) }
 {
+    let Some(first) = stays.get(head) else {
+        return Ok(None);
+    };
     let start = first.window.from as u64;
     let mut times = Vec::new(heap);
     times.push(start)?;
-    let mut last = first;
+    let mut last = *first;
     let mut at = start;
     for i in others {
         let Some(stay) = stays.get(*i) else {
@@ -51,7 +52,12 @@ fn follow(
         times.push(at)?;
         last = *stay;
     }
-    Ok(Some(Followed { times, last, at }))
+    Ok(Some(Followed {
+        times,
+        first: *first,
+        last,
+        at,
+    }))
 }
 
 // The trial along an order, from its first stay on. There is none along the empty order, along one
@@ -68,14 +74,13 @@ pub fn trial(
     let Some((head, others)) = order.split_first() else {
         return Ok(None);
     };
-    let Some(first) = stays.get(*head) else {
+    let Some(followed) = follow(heap, ring, ratio, stays, *head, others)? else {
         return Ok(None);
     };
-    let Some(followed) = follow(heap, ring, ratio, stays, *head, others, *first)? else {
-        return Ok(None);
-    };
-    let end = first.window.from as u64 + ring.ticks() as u64;
-    let closes = followed.last.is_apart(ratio, followed.at, first, end);
+    let end = followed.first.window.from as u64 + ring.ticks() as u64;
+    let closes = followed
+        .last
+        .is_apart(ratio, followed.at, &followed.first, end);
     Ok(Some(Attempt {
         times: followed.times,
         closes,

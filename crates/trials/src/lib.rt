@@ -8,11 +8,11 @@
 #![tactic(auto)]
 
 mod attempts;
+mod errors;
 mod next;
-mod nos;
 mod tries;
 
 pub use attempts::{Attempt, trial};
+pub use errors::NoSeating;
 pub use next::next_time;
-pub use nos::NoSeating;
 pub use tries::try_order;

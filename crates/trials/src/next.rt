@@ -14,7 +14,8 @@ fn gap(ratio: Ratio, a: &Stay, b: &Stay) -> u128
 {
     let p = ratio.over() as u128;
     let q = ratio.under() as u128;
-    (p * (a.trail as u128 + b.lead as u128)).div_ceil(q)
+    // div_ceil divides twice, and a leeway of 64 stays takes a quarter longer
+    (p * (a.trail as u128 + b.lead as u128) + (q - 1)) / q
 }
 
 // The least time of b after a at x, nothing where that passes 64 bits.
@@ -22,6 +23,7 @@ pub fn next_time(ring: Ring, ratio: Ratio, a: &Stay, x: u64, b: &Stay) -> Option
     ensures { MatchOption result ((z : ℕ) → Holds ring.ticks b.now.window z → Apart ratio.over ratio.under a.now x b.now z → 2 ^ 64 ≤ z) (λ y. Least ring.ticks ratio.over ratio.under a.now x b.now y) }
 {
     let low = x as u128 + gap(ratio, a, b);
+    // branch by branch: with `?` and no last `Some` the goal stays open
     let Ok(low) = u64::try_from(low) else {
         return None;
     };

@@ -3,8 +3,8 @@ ghost use Rattle.placement.specs.Arcs.{InBounds};
 ghost use Rattle.placement.specs.Seatings.{Order, Seated, no_plan, plan, planned, turned};
 ghost use Rattle.trials.specs.Trials.{Answers, Complete, Found};
 
+use crate::errors::NoSeating;
 use crate::next::next_time;
-use crate::nos::NoSeating;
 use placement::{Seating, Stay, all_in_bounds, is_order};
 use ring::{Ratio, Ring};
 use std::alloc::{AllocError, Global};
@@ -22,6 +22,7 @@ fn first_closing(
 {
     let n = order.len();
     let mut starts = 0..n;
+    // a loop that is left with its value, a rule of the project
     let found = 'trials: loop {
         let Some(t) = starts.next() else {
             break 'trials None;

@@ -9,6 +9,11 @@ use Rattle.trials.proofs.attempts.follow.Goals as goal
 -- An index that the list does not have.
 pub returns-in_default : goal.returns-in_default
 returns-in_default c =
+    let far : length c.args.stays.now ≤ c.args.head = search rules in
+    λ below ts f small. omega (arith, below 0 (omega arith))
+
+pub returns-in_default-get : goal.returns-in_default-get
+returns-in_default-get c =
     let far : length c.args.stays.now ≤ get_or c.args.others.now c.loop-i.i-index 0 = search rules in
     λ below ts f small. omega (arith, below (suc c.loop-i.i-index) (omega arith))
 
@@ -22,8 +27,8 @@ returns-in_default-next_time c =
     let os : List ℕ = c.args.head ∷ c.args.others.now in
     let k : ℕ = suc c.loop-i.i-index in
     let v = c.loop-i.invariant in
-    let e : c.in-Some.stay.now ≡ get_or l (get_or os k 0) no_stay = search rules in
-    let m = least_exists C p q l c.args.ring.bounds.0 c.args.ratio.whole c.loop-i.last c.loop-i.at c.in-Some.stay.now in
+    let e : c.in-Some-get.stay.now ≡ get_or l (get_or os k 0) no_stay = search rules in
+    let m = least_exists C p q l c.args.ring.bounds.0 c.args.ratio.whole c.loop-i.last c.loop-i.at c.in-Some-get.stay.now in
     let late : 2 ^ 64 ≤ m.0 = c.in_default-next_time.ensures m.0 m.1.holds m.1.apart in
     let m' : Least C p q c.loop-i.last c.loop-i.at (get_or l (get_or os k 0) no_stay) m.0 = (rw e at m).1 in
     λ below ts f small.
@@ -39,8 +44,8 @@ loop-i-preserved c =
     let k : ℕ = suc c.loop-i.i-index in
     let v = c.loop-i.invariant in
     let y = c.in-Some-next_time.time in
-    let is : c.in-Some.stay.now ≡ get_or l (get_or os k 0) no_stay = search rules in
-    let m : Least C p q c.loop-i.last c.loop-i.at c.in-Some.stay.now y = c.in-Some-next_time.ensures in
+    let is : c.in-Some-get.stay.now ≡ get_or l (get_or os k 0) no_stay = search rules in
+    let m : Least C p q c.loop-i.last c.loop-i.at c.in-Some-get.stay.now y = c.in-Some-next_time.ensures in
     let m' : Least C p q c.loop-i.last c.loop-i.at (get_or l (get_or os k 0) no_stay) y = rw is at m in
     let s : c.loop-i.i-index + 1 ≡ k = omega arith in
     let e : vec_items c.push-in-loop-i.new.self ≡ vec_items c.loop-i.times ++ y ∷ [] = c.in_ok-push-2.ensures.items in (
@@ -48,17 +53,3 @@ loop-i-preserved c =
       rw s (last_next C p q l k os (omega arith)) ∙ sym is,
       rw e (last_push 0 (vec_items c.loop-i.times) y),
     )
-
-pub returns : goal.returns
-returns c =
-    let C = c.args.ring.ticks in
-    let p = c.args.ratio.over in
-    let q = c.args.ratio.under in
-    let l = c.args.stays.now in
-    let os : List ℕ = c.args.head ∷ c.args.others.now in
-    let v = c.loop-i.invariant in
-    let first = c.args.first in
-    let is : first ≡ get_or l (get_or os 0 0) no_stay = c.requires in
-    let P : Stay → Type 0 = λ f. Apart p q c.loop-i.last c.loop-i.at f (f.window.from + C) in
-    let w = whole C p q l (suc c.loop-i.i-index) os (vec_items c.loop-i.times) c.loop-i.last c.loop-i.at (omega arith) v.0 v.1 v.2 in
-    (w.0, ((λ a. w.1 (subst P is a)), λ k. subst P (sym is) (w.2 k)))

@@ -15,8 +15,3 @@ loop-high-preserved c =
     let e = c.with_over.ensures in
     let fails : SeatsIn C mid g l os → ⊥ = λ s. not_both c.if-branch.false (c.in_ok-seats.ensures.1 (subst (λ n. SeatsIn C n c.with_over.result.under l os) (sym e.0) (subst (λ n. SeatsIn C mid n l os) (sym e.1) s))) in
     (omega arith, omega arith, omega arith, v.3, λ x h s. below C g mid x l os c.args.from.whole fails s)
-
-pub returns : goal.returns
-returns c =
-    let v = c.loop-high.invariant in
-    (record { small = omega arith; seats = v.3; largest = λ e h s. omega (arith, v.4 e h s) }, omega arith)

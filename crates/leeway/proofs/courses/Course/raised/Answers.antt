@@ -6,12 +6,6 @@ use Rattle.leeway.proofs.courses.Course.raised.Goals as goal
 next : (a b g p q : ℕ) → a ≡ p → b ≡ q → a * g / b + 1 ≡ p * g / q + 1
 next a b g p q e f = ap (λ n. n * g / b + 1) e ∙ ap (λ n. p * g / n + 1) f
 
--- One tick more is past the ring.
-pub returns-then-next-ticks : goal.returns-then-next-ticks
-returns-then-next-ticks c =
-    let e = next c.over.result c.under.result c.args.gap c.args.best.over c.args.best.under c.over.ensures c.under.ensures in
-    same_raised c.args.self.ring.ticks c.args.self.stays.now c.args.self.order.now c.args.best c.args.gap c.requires (λ x h s. omega (arith, e, h, c.if-next-ticks.true, c.ticks.ensures))
-
 -- One tick more has no seating.
 pub returns-then-not-branch : goal.returns-then-not-branch
 returns-then-not-branch c =

@@ -1,9 +1,9 @@
 -- Why a list is not seated: from the trials of one order, and how it is written.
 use Rattle.std.specs.Prelude.{ℕ, List, codes}
-use Rattle.trials.specs.declared.nos.NoSeating.{NoSeating}
-use Rattle.trials.specs.declared.nos.NoSeating.TheVariants.{OutOfBounds, NotAnOrder, NoneCloses, NoMemory}
-use Rattle.seaters.specs.declared.nos.NotSeated.{NotSeated}
-use Rattle.seaters.specs.declared.nos.NotSeated.TheVariants.{NotTaken, NoneGranted}
+use Rattle.trials.specs.declared.errors.NoSeating.{NoSeating}
+use Rattle.trials.specs.declared.errors.NoSeating.TheVariants.{OutOfBounds, NotAnOrder, NoneCloses, NoMemory}
+use Rattle.seaters.specs.declared.errors.NotSeated.{NotSeated}
+use Rattle.seaters.specs.declared.errors.NotSeated.TheVariants.{NotTaken, NoneGranted}
 
 -- Of a seater that tries one order of every list that it takes.
 abbrev pub by_trials : NoSeating → NotSeated

@@ -1,8 +1,8 @@
 ghost use Rattle.std.specs.Prelude.{◌≡◌, Some};
-ghost use Rattle.leeway.specs.Nos.{by_trials, no_text};
-ghost use Rattle.leeway.specs.declared.nos.NoLeeway.TheVariants.{NoMemory};
+ghost use Rattle.leeway.specs.Errors.{by_trials, no_text};
+ghost use Rattle.leeway.specs.declared.errors.NoLeeway.TheVariants.{NoMemory};
 
-use std::alloc::{AllocError, AllocFailed};
+use std::alloc::AllocError;
 use std::error::Error;
 use std::fmt;
 use trials::NoSeating;
@@ -42,14 +42,6 @@ impl From<AllocError> for NoLeeway {
     ghost from_gives = { λ _ r. r ≡ NoMemory };
 
     fn from(_e: AllocError) -> NoLeeway {
-        NoLeeway::NoMemory
-    }
-}
-
-impl<T: Drop> From<AllocFailed<T>> for NoLeeway {
-    ghost from_gives = { λ _ r. r ≡ NoMemory };
-
-    fn from(_e: AllocFailed<T>) -> NoLeeway {
         NoLeeway::NoMemory
     }
 }

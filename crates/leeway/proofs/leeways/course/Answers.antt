@@ -4,7 +4,7 @@ use Rattle.placement.specs.declared.seatings.Seating.{Seating}
 use Rattle.trials.specs.Trials.{Answers as TriedAnswers}
 use Rattle.leeway.specs.Leeways.{Asked, Decided, SeatsIn}
 use Rattle.leeway.proofs.Turning.{seated_not_err}
-use Rattle.leeway.proofs.leeways.asked.Goals as goal
+use Rattle.leeway.proofs.leeways.course.Goals as goal
 
 at_zero : (C p q : ℕ) (l : List Stay) (os : List ℕ) (s : Seating) → (p ≡ 0) × (q ≡ 1) → 0 < length l → Decided C p q l os → TriedAnswers C p q l os (Ok s) → Asked C l os × SeatsIn C 0 1 l os
 at_zero C p q l os s e some d a =
@@ -14,4 +14,4 @@ at_zero C p q l os s e some d a =
 pub returns : goal.returns
 returns c =
     let some : 0 < length c.args.stays.now = search rules in
-    at_zero c.args.ring.ticks c.whole-zero.result.over c.whole-zero.result.under c.args.stays.now c.args.order.now c.in_ok-try_order.field-0 c.whole-zero.ensures some c.trials_decide.ensures c.in_ok-try_order.ensures.answers
+    (refl, refl, refl, (at_zero c.args.ring.ticks c.whole-zero.result.over c.whole-zero.result.under c.args.stays.now c.args.order.now c.in_ok-try_order.field-0 c.whole-zero.ensures some c.trials_decide.ensures c.in_ok-try_order.ensures.answers).1)

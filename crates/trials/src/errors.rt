@@ -1,8 +1,8 @@
 ghost use Rattle.std.specs.Prelude.{◌≡◌, Some};
 ghost use Rattle.trials.specs.Trials.{no_text};
-ghost use Rattle.trials.specs.declared.nos.NoSeating.TheVariants.{NoMemory};
+ghost use Rattle.trials.specs.declared.errors.NoSeating.TheVariants.{NoMemory};
 
-use std::alloc::{AllocError, AllocFailed};
+use std::alloc::AllocError;
 use std::error::Error;
 use std::fmt;
 
@@ -38,14 +38,6 @@ impl From<AllocError> for NoSeating {
     ghost from_gives = { λ _ r. r ≡ NoMemory };
 
     fn from(_e: AllocError) -> NoSeating {
-        NoSeating::NoMemory
-    }
-}
-
-impl<T: Drop> From<AllocFailed<T>> for NoSeating {
-    ghost from_gives = { λ _ r. r ≡ NoMemory };
-
-    fn from(_e: AllocFailed<T>) -> NoSeating {
         NoSeating::NoMemory
     }
 }

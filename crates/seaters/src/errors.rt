@@ -1,8 +1,8 @@
 ghost use Rattle.std.specs.Prelude.{◌≡◌, Some};
-ghost use Rattle.seaters.specs.Nos.{by_trials, no_text};
-ghost use Rattle.seaters.specs.declared.nos.NotSeated.TheVariants.{NoMemory};
+ghost use Rattle.seaters.specs.Errors.{by_trials, no_text};
+ghost use Rattle.seaters.specs.declared.errors.NotSeated.TheVariants.{NoMemory};
 
-use std::alloc::{AllocError, AllocFailed};
+use std::alloc::AllocError;
 use std::error::Error;
 use std::fmt;
 use trials::NoSeating;
@@ -36,14 +36,6 @@ impl From<AllocError> for NotSeated {
     ghost from_gives = { λ _ r. r ≡ NoMemory };
 
     fn from(_e: AllocError) -> NotSeated {
-        NotSeated::NoMemory
-    }
-}
-
-impl<T: Drop> From<AllocFailed<T>> for NotSeated {
-    ghost from_gives = { λ _ r. r ≡ NoMemory };
-
-    fn from(_e: AllocFailed<T>) -> NotSeated {
         NotSeated::NoMemory
     }
 }
