@@ -1,6 +1,6 @@
 -- Places in an order, and lists changed in place.
-use Rattle.std.proofs.Common.{◌≡◌, ℕ, zero, suc, ◌+◌, ◌-◌, ◌*◌, ◌/◌, ◌<◌, ◌≤◌, cond, List, [], ◌∷◌, ◌++◌, map, length, get_or, take, drop, set, refl, ap, ◌∙◌, arith, eq-eqb, ltb-true, ltb-false, lt-ltb, sym, subst, true≢false, eqb-true}
-use Rattle.std.proofs.lemmas.List.{get_or-append_right, length-map, length-take-le, get_or-drop, get_or_default, drop_at, take_at}
+use Rattle.std.proofs.Common.{◌≡◌, ℕ, zero, suc, ◌+◌, ◌-◌, ◌<◌, ◌≤◌, cond, List, [], ◌∷◌, ◌++◌, map, length, get_or, take, drop, set, refl, ap, ◌∙◌, arith, eq-eqb, ltb-true, ltb-false, lt-ltb, sym, subst, true≢false}
+use Rattle.std.proofs.lemmas.List.{get_or-append_right, length-map, length-take-le, get_or-drop, get_or_default}
 use Rattle.std.proofs.lemmas.List.Edits.{map_over_more}
 use Rattle.std.specs.List.{remove, list_all}
 use Rattle.std.proofs.lemmas.List.{get_or_past}
@@ -11,7 +11,7 @@ use Rattle.ring.specs.Questions.{Tells}
 use Rattle.std.specs.Prelude.{Option, Some, None, MatchOption, Bool, true, false, not, nat_eq, nat_lt, ◌==◌}
 use Rattle.std.specs.Option.{unwrap_or, option_eq, is_some}
 use Rattle.std.specs.List.{position, position_or_len}
-use Rattle.placement.specs.Seatings.{place_of, FirstPlace, lowered, begun}
+use Rattle.placement.specs.Seatings.{place_of, FirstPlace}
 
 place_prefix : (i : ℕ) (os : List ℕ) → position_or_len (λ o. o == i) os ≡ place_of i os
 place_prefix i [] = refl
@@ -56,13 +56,6 @@ pub over_more : (f : ℕ → ℕ) (xs ys : List ℕ) (i v : ℕ) → i < length 
 over_more f xs ys i v h n e w =
     rw w (map_over_more f xs ys i (get_or ys i 0) h e (get_or_default ys i 0 (get_or ys i 0) (omega arith)))
 
--- raised, turned and lowered: begun at k
-pub begun_steps : (C k : ℕ) (ts raised rot low : List ℕ) → k ≤ length ts → raised ≡ map (λ u. u + C) (take k ts) ++ drop k ts → rot ≡ drop k raised ++ take k raised → low ≡ map (λ u. u - get_or rot 0 0 / C * C) rot → low ≡ begun C k ts
-begun_steps C k ts raised rot low h er et el =
-    let n : length (map (λ u. u + C) (take k ts)) ≡ k = length-map (take k ts) (λ u. u + C) ∙ length-take-le k ts h in
-    let e : rot ≡ drop k ts ++ map (λ u. u + C) (take k ts) = et ∙ rw (er, drop_at (map (λ u. u + C) (take k ts)) (drop k ts) k n, take_at (map (λ u. u + C) (take k ts)) (drop k ts) k n) refl in
-    el ∙ ap (lowered C) e
-
 pub removed_past : (xs : List ℕ) (k : ℕ) → length xs ≤ k → remove xs k ≡ xs
 removed_past [] zero h = refl
 removed_past [] (suc k) h = refl
@@ -97,11 +90,3 @@ place_from i k os r h e = let f = subst (FirstPlace i os) e h in (sym f.0, f.1)
 pub other_place : (r : Option ℕ) (k : ℕ) (b : Bool) → b ≡ not (option_eq nat_eq r (Some k)) → b ≡ true → r ≡ Some k → ⊥
 other_place None k b e t h = absurd (true≢false (sym (ap (λ o. is_some o) h)))
 other_place (Some x) k b e t h = absurd (true≢false (sym t ∙ e ∙ ap not (eq-eqb x k (ap (λ o. unwrap_or o 0) h))))
-
-pub that_place : (r : Option ℕ) (k : ℕ) (b : Bool) → b ≡ not (option_eq nat_eq r (Some k)) → b ≡ false → r ≡ Some k
-that_place None k b e f = absurd (true≢false (sym e ∙ f))
-that_place (Some x) k b e f = ap Some (eqb-true x k (unturned (nat_eq x k) (sym e ∙ f)))
-  where
-    unturned : (t : Bool) → not t ≡ false → t ≡ true
-    unturned true h = refl
-    unturned false h = absurd (true≢false h)

@@ -2,7 +2,7 @@ ghost use Rattle.std.specs.Prelude.{◌≡◌, Some};
 ghost use Rattle.seaters.specs.Errors.{by_trials, no_text};
 ghost use Rattle.seaters.specs.declared.errors.NotSeated.TheVariants.{NoMemory};
 
-use std::alloc::AllocError;
+use std::alloc::{AllocError, AllocFailed};
 use std::error::Error;
 use std::fmt;
 use trials::NoSeating;
@@ -36,6 +36,15 @@ impl From<AllocError> for NotSeated {
     ghost from_gives = { λ _ r. r ≡ NoMemory };
 
     fn from(_e: AllocError) -> NotSeated {
+        NotSeated::NoMemory
+    }
+}
+
+// For seaters that push to a list of their own.
+impl<T: Drop> From<AllocFailed<T>> for NotSeated {
+    ghost from_gives = { λ _ r. r ≡ NoMemory };
+
+    fn from(_e: AllocFailed<T>) -> NotSeated {
         NotSeated::NoMemory
     }
 }

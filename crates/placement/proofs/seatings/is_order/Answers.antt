@@ -1,6 +1,6 @@
-use Rattle.std.proofs.Common.{◌≡◌, ℕ, true, false, get_or, arith, below_more}
+use Rattle.std.proofs.Common.{◌≡◌, ℕ, true, false, get_or, arith}
 use Rattle.placement.proofs.Orders.{place_is, order_lists}
-use Rattle.placement.proofs.Places.{place_some, place_from, other_place, that_place}
+use Rattle.placement.proofs.Places.{place_some, other_place}
 use Rattle.placement.proofs.seatings.is_order.Goals as goal
 use Rattle.placement.proofs.seatings.is_order.Goals.{then-o-n-via-then-o-n, then-o-n-via-else-o-n+then-ne}
 
@@ -18,10 +18,3 @@ returns-then-o-n c =
         | then-o-n-via-else-o-n+then-ne w ↦ absurd (other_place w.find.result k w.ne.result w.ne.ensures w.if-ne.true (place_some (get_or os k 0) k os w.find.result w.find.ensures (place_is os (order_lists c.args.n os o).0 k (omega arith)) (omega arith)))
       ],
     )
-
-pub loop-k-preserved : goal.loop-k-preserved
-loop-k-preserved c =
-    let os = c.args.order.now in
-    let k = c.loop-k.k in
-    let at = that_place c.find.result k c.ne.result c.ne.ensures c.if-ne.false in
-    below_more _ _ c.loop-k.invariant (omega (arith, c.if-o-n.false), (place_from (get_or os k 0) k os c.find.result c.find.ensures at).0)

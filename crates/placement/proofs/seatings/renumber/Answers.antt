@@ -1,5 +1,4 @@
-use Rattle.std.proofs.Common.{◌≡◌, ℕ, ◌-◌, ◌≤◌, cond, length, get_or, set, sym, ap, ◌∙◌, arith, le-ltb, lt-ltb}
-use Rattle.std.proofs.lemmas.List.{take_all, drop_all, append-nil}
+use Rattle.std.proofs.Common.{◌≡◌, ℕ, ◌-◌, cond, get_or, set, sym, ap, ◌∙◌, arith, le-ltb, lt-ltb}
 use Rattle.placement.specs.Seatings.{fallen}
 use Rattle.placement.proofs.Places.{over_more}
 use Rattle.placement.proofs.seatings.renumber.Goals as goal
@@ -21,8 +20,3 @@ loop-o-preserved c =
           let e : c.if-o-stay.order ≡ set ys i x = w.order-is in
           e ∙ step x (sym (ap (λ b. cond b (x - 1) x) (le-ltb s x w.if-o-stay.false)))
     ]
-
-pub returns : goal.returns
-returns c =
-    let h : length c.args.order.now ≤ c.loop-o.o-index = omega arith in
-    c.loop-o.invariant ∙ rw (take_all c.loop-o.o-index c.args.order.now h, drop_all c.loop-o.o-index c.args.order.now h) (append-nil _)

@@ -1,8 +1,7 @@
-use Rattle.std.proofs.Common.{◌≡◌, ℕ, List, length, suc, ◌+◌, ◌^◌, ◌≤◌, [], ◌∷◌, ◌++◌, get_or, vec_items, sym, ◌∙◌, subst, arith, rules}
-use Rattle.placement.specs.Stays.{Apart, no_stay}
-use Rattle.placement.specs.declared.stays.Stay.{Stay}
+use Rattle.std.proofs.Common.{◌≡◌, ℕ, List, length, suc, ◌+◌, ◌^◌, ◌≤◌, [], ◌∷◌, ◌++◌, get_or, vec_items, sym, ◌∙◌, arith, rules}
+use Rattle.placement.specs.Stays.{no_stay}
 use Rattle.trials.specs.Trials.{Least}
-use Rattle.trials.proofs.Pushes.{last_push, trial_next, last_next, whole}
+use Rattle.trials.proofs.Pushes.{last_push, trial_next, last_next}
 use Rattle.trials.proofs.Firsts.{least_exists, trial_time}
 use Rattle.trials.proofs.attempts.follow.Goals as goal
 

@@ -1,5 +1,5 @@
-use Rattle.std.proofs.Common.{ℕ, ◌∷◌, ◌≤◌, List, length, sym, subst, arith, rules}
-use Rattle.trials.specs.Trials.{NoAttempt, Attempted}
+use Rattle.std.proofs.Common.{ℕ, ◌∷◌, List, sym, subst, rules}
+use Rattle.trials.specs.Trials.{NoAttempt}
 use Rattle.trials.proofs.attempts.trial.Goals as goal
 
 pub returns-in_default-2 : goal.returns-in_default-2

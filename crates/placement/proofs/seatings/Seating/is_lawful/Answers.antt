@@ -1,4 +1,4 @@
-use Rattle.std.proofs.Common.{◌≡◌, ℕ, List, true, false, length, vec_items, refl, sym, subst, arith, rules, below_more}
+use Rattle.std.proofs.Common.{◌≡◌, ℕ, List, true, false, length, vec_items, refl, subst, arith, rules}
 use Rattle.ring.specs.Questions.{Tells}
 use Rattle.placement.specs.Seatings.{Order, Seated, Lawful}
 use Rattle.placement.proofs.Leaving.{empty_lawful}
@@ -38,9 +38,6 @@ unfolding Seated Lawful
 returns-then-not-is_fine c =
     let k = c.loop-k.k in
     ((λ e. absurd (never e)), λ h. c.if-not-is_fine.ensures.1 (h.0.3 k (omega arith), h.0.4 k, h.0.5 k))
-
-pub loop-k-preserved : goal.loop-k-preserved
-loop-k-preserved c = below_more _ _ c.loop-k.invariant (c.if-not-is_fine.ensures.0 refl)
 
 pub returns : goal.returns
 unfolding Seated Lawful
