@@ -12,7 +12,7 @@ kind_number PickUp = 0
 kind_number Drop = 1
 kind_number Zone = 2
 
--- A number is turned into the kind that has it, or told back where no kind has it.
+-- A number is turned into the kind that has it, or given back where no kind has it.
 abbrev pub Numbered : ℕ → Result Kind UnknownKind → Type 0
 Numbered number r = MatchResult r (λ k. kind_number k ≡ number) (λ e. (e.0 ≡ number) × (2 < number))
 

@@ -19,7 +19,7 @@ pub fn field_at(fixed: &[u8], at: usize, width: usize) -> u32
     ensures small { result < 2 ^ width }
     ensures octets { Octets fixed.now }
 {
-    // No `fold`: of its calls the check leaves open that each product fits and what they make.
+    // tried as a `fold`: that each product fits, and what it gives, stayed unproved
     let mut number = 0;
     for i in 0..width {
         number = number * 2 + bit_at(fixed, at + i);

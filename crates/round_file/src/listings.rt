@@ -28,7 +28,7 @@ fn collect<'a>(heap: Global, reader: &mut Reader<'a>) -> Result<Collected<'a>, R
     ensures cases { MatchResult result (λ k. Collects reader.old.header.ring.ticks reader.old.header.count reader.old.bytes.now reader.old.cursor k reader.new.cursor) (λ e. e ≡ NoMemory) }
     ensures kept { (reader.new.header ≡ reader.old.header) × (reader.new.bytes.now ≡ reader.old.bytes.now) }
 {
-    // No iterator: a refusal leaves the reader where it stands, so as one it would never end.
+    // no iterator: after a refusal the reader would give the same refusal without end
     let mut records = Vec::new(heap);
     let stop = loop {
         match reader.next() {

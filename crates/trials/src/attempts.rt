@@ -22,7 +22,8 @@ struct Followed {
     at: u64,
 }
 
-// The first stay at its window's first position, and each of the others at its least time.
+// The first stay at its window's first position, and each of the others at its least time. The trials
+// of an order go over the stays again in a loop that is left by its label, a rule of the project.
 fn follow(
     heap: Global,
     ring: Ring,

@@ -9,7 +9,8 @@ use placement::{Seating, Stay, all_in_bounds, is_order};
 use ring::{Ratio, Ring};
 use std::alloc::{AllocError, Global};
 
-// The first trial that closes: its place in the order and its times.
+// The first trial that closes: its place in the order and its times. The list and the order are lent
+// on as the public call is lent them.
 fn first_closing(
     heap: Global,
     ring: Ring,
@@ -35,7 +36,8 @@ fn first_closing(
         let mut last = first;
         let mut at = start;
         'followers: for k in 1..n {
-            // by index, round the order from t: cycle and skip would step over t places first
+            // by index, round the order from t: tried with chain over its two parts, that the indexes
+            // are in range stayed unproved
             let stay = stays[order[(t + k) % n]];
             let Some(time) = next_time(ring, ratio, &last, at, &stay) else {
                 continue 'trials;
