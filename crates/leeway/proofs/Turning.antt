@@ -78,10 +78,6 @@ module _ (C p q : ℕ) (l : List Stay) (hC : 1 ≤ C) (hq : 1 ≤ q) where
       let k = g.1 (omega arith) in
       seats_unturned (a ∷ os) k.place (omega (arith, k.first.place)) (record { times = k.times; seated = subst (λ v. Seated C p q l v) k.is h })
 
--- A seating is no refusal.
-pub seated_not_err : (s : Seating) {E : Type 0} {e : E} → Ok s ≡ Err e → ⊥
-seated_not_err s h = let z : ◌≡◌ {A = ℕ} 0 1 = ap (λ r. elim r [ Ok x ↦ 0 | Err y ↦ 1 ]) h in omega arith
-
 pub decided : (C p q : ℕ) (l : List Stay) (os : List ℕ) → 1 ≤ C → 1 ≤ q → Decided C p q l os
 decided C p q l os hC hq = record { tells = at }
   where
