@@ -34,7 +34,7 @@ abbrev pub Decides : Ring → Pace → List Stay → Result (Unit {0}) NotSeated
 Decides c v l (Err NotTaken) = TakesFew c l → ⊥
 Decides c v l (Err NoneGranted) = TakesFew c l × (CanFit c.ticks v.p v.q l → ⊥)
 Decides c v l (Ok u) = TakesFew c l × CanFit c.ticks v.p v.q l
-Decides c v l (Err NoMemory) = Unit {0}
+Decides c v l (Err NoMemory) = TakesFew c l
 
 -- A list that can fit has a lawful seating, and one that has a lawful seating can fit.
 pub record Fitting (C p q : ℕ) (l : List Stay) : Type 0 where

@@ -310,3 +310,35 @@ mod searches {
         Ok(())
     }
 }
+
+#[cfg(test)]
+mod trying {
+    use crate::stays::trailing;
+    use ring::{Ratio, Ring};
+    use std::test::Fail;
+    use trials::{NoSeating, try_order};
+
+    // On 100 the two lengths of 60 are too long, at 1/1 and not at 1/2.
+    #[test]
+    fn refusals(rt: HostRuntime) -> Result<(), Fail> {
+        let ring = Ring::new(100)?;
+        let list = [trailing(0, 99, 60), trailing(0, 99, 60)];
+        let half = Ratio::new(1, 2).ok_or("no ratio")?;
+        let tried = |ratio: Ratio, order: &[usize]| {
+            try_order(rt.alloc(), ring, ratio, &list, order).err()
+        };
+        assert_eq!(rt;
+            tried(Ratio::whole(1), &[0, 1]),
+            Some(NoSeating::NoneCloses)
+        );
+        assert_eq!(rt;
+            tried(Ratio::whole(1), &[0, 0]),
+            Some(NoSeating::NotAnOrder)
+        );
+        assert_eq!(rt; tried(half, &[1, 0]), None);
+        let wide = [trailing(0, 100, 1)];
+        let refusal = try_order(rt.alloc(), ring, half, &wide, &[1]).err();
+        assert_eq!(rt; refusal, Some(NoSeating::OutOfBounds));
+        Ok(())
+    }
+}

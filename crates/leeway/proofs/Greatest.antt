@@ -1,5 +1,5 @@
 -- The greatest fraction is one of the order's own, so the greatest over all its gaps is it.
-use Rattle.std.proofs.Common.{◌≡◌, ℕ, zero, suc, ◌+◌, ◌*◌, ◌/◌, ◌<◌, ◌≤◌, Bool, true, false, List, length, sym, ap, ◌∙◌, subst, mul-le-mul_right, mul-le-mul, zero-mul, arith, below_more}
+use Rattle.std.proofs.Common.{◌≡◌, ℕ, zero, suc, ◌+◌, ◌*◌, ◌/◌, ◌<◌, ◌≤◌, Bool, true, false, List, length, sym, ap, ◌∙◌, subst, mul-le-mul_right, mul-le-mul, zero-mul, arith, below_more, true≢false}
 use native.Mathlib.Decide.{dec_lt}
 use Rattle.ring.specs.Fractions.{Lowest}
 use Rattle.ring.specs.declared.measures.Ratio.{Ratio}
@@ -15,7 +15,7 @@ pub below : (C g d e : ℕ) (l : List Stay) (os : List ℕ) → 1 ≤ g → (Sea
 below C g d e l os hg n s = elim (dec_lt e d) [ yes h ↦ h | no k ↦ absurd (n (smaller C l os e g d g hg (mul-le-mul_right g (omega arith)) s)) ]
 
 pub not_both : {b : Bool} → b ≡ false → b ≡ true → ⊥
-not_both e f = let z : ◌≡◌ {A = ℕ} 0 1 = cc in omega arith
+not_both e f = true≢false (sym f ∙ e)
 
 pub same_raised : (C : ℕ) (l : List Stay) (os : List ℕ) (b : Ratio) (g : ℕ) → Kept C l os b → ((e : ℕ) → e ≤ C → SeatsIn C e g l os → e < b.over * g / b.under + 1) → Raised C l os b g b
 same_raised C l os b g k h = record { kept = k; no_less = omega arith; bounds = λ some e he s. under_next b.over b.under g e b.whole (h e he s) }

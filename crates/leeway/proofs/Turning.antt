@@ -1,5 +1,5 @@
 -- An order begun at another stay.
-use Rattle.std.proofs.Common.{◌≡◌, ℕ, zero, suc, ◌+◌, ◌-◌, ◌<◌, ◌≤◌, false, List, [], ◌∷◌, ◌++◌, length, get_or, take, drop, sym, refl, ap, ◌∙◌, subst, arith, length-append}
+use Rattle.std.proofs.Common.{◌≡◌, true≢false, ℕ, zero, suc, ◌+◌, ◌-◌, ◌<◌, ◌≤◌, false, List, [], ◌∷◌, ◌++◌, length, get_or, take, drop, sym, refl, ap, ◌∙◌, subst, arith, length-append}
 use native.Mathlib.Decide.{dec_le}
 use lib.Seq.{split_at, take-append_seam, drop-append_seam, take-append-le, drop-append-le, take-append-add, drop-append-add, get_or-append_seam}
 use Rattle.std.proofs.lemmas.List.{append-nil, append_assoc, take-append-drop}
@@ -82,7 +82,7 @@ pub decided : (C p q : ℕ) (l : List Stay) (os : List ℕ) → 1 ≤ C → 1 �
 decided C p q l os hC hq = record { tells = at }
   where
     no : (P : Type 0) → (P → ⊥) → Tells false P
-    no P n = ((λ e. let z : ◌≡◌ {A = ℕ} 0 1 = cc in absurd (omega arith)), λ h. absurd (n h))
+    no P n = ((λ e. absurd (true≢false (sym e))), λ h. absurd (n h))
 
     at : (t : Result Seating NoSeating) → Asked C l os → Answers C p q l os t → (t ≡ Err NoMemory → ⊥) → Tells (is_seated t) (SeatsIn C p q l os)
     at (Err OutOfBounds) A a n = no _ (λ s. a A.bounds)

@@ -46,7 +46,7 @@ Answers C l os (Err NoStay) = length l ≡ 0
 Answers C l os (Err OutOfBounds) = (0 < length l) × (InBounds C l → ⊥)
 Answers C l os (Err NotAnOrder) = (0 < length l) × InBounds C l × (Order (length l) os → ⊥)
 Answers C l os (Err NoRoom) = Asked C l os × HasNoRoom C l os
-Answers C l os (Err NoMemory) = Unit {0}
+Answers C l os (Err NoMemory) = Asked C l os
 
 -- The place after k, round an order of n.
 abbrev pub next_place : ℕ → ℕ → ℕ

@@ -1,5 +1,5 @@
 -- The bits of a set.
-use Rattle.std.proofs.Common.{◌≡◌, ℕ, ◌+◌, ◌*◌, ◌%◌, ◌^◌, ◌<◌, true, false, ◌⊎◌, bit_or, w64, sym, refl, ◌∙◌, subst, inl, inr, arith}
+use Rattle.std.proofs.Common.{◌≡◌, ℕ, ◌+◌, ◌*◌, ◌%◌, ◌^◌, ◌<◌, true, false, ◌⊎◌, bit_or, w64, sym, refl, ◌∙◌, subst, inl, inr, arith, true≢false}
 use Rattle.std.proofs.lemmas.Nat.Bits.{bit_at_set_same, bit_at_set_other}
 use Rattle.std.proofs.lemmas.Bool.{eq-eqb, ne_eqb, cases_eq}
 use Rattle.search.specs.Sets.{held, In, Joined}
@@ -32,7 +32,7 @@ pub free : (m : StaySet) (j : ℕ) → (In m j → ⊥) → held m j ≡ 0
 free m j f = elim (cases_eq (held m j) 1) [ inl e ↦ absurd (f e) | inr n ↦ omega (arith, n) ]
 
 pub not_held : (m : StaySet) (j : ℕ) → (In m j → false ≡ true) → held m j ≡ 0
-not_held m j f = free m j (λ h. let e = f h in let z : ◌≡◌ {A = ℕ} 0 1 = cc in omega arith)
+not_held m j f = free m j (λ h. true≢false (sym (f h)))
 
 -- Where the index is new, the numbers add up.
 pub joined_held : (m r : StaySet) (i j : ℕ) → Joined m i r → held m i ≡ 0 → held r j ≡ held m j + one i j

@@ -1,6 +1,6 @@
 ghost use Rattle.std.specs.Prelude.{◌≡◌};
 ghost use Rattle.placement.specs.Seatings.{Seated, plan};
-ghost use Rattle.trials.specs.Trials.{Answers, Given};
+ghost use Rattle.trials.specs.Trials.{Given};
 ghost use Rattle.seaters.specs.Meanings.{Told};
 ghost use Rattle.seaters.specs.Worked.{Worked};
 ghost use Rattle.seaters.specs.ListOrders.{Decided, FirstBegun, InListOrder, order_of_list, list_order_means};
@@ -11,7 +11,7 @@ use crate::seaters::Seater;
 use placement::{Seating, Stay, own_order};
 use ring::{Pace, Ring};
 use std::alloc::Global;
-use trials::{NoSeating, try_order};
+use trials::try_order;
 
 // Keeps the order of the list.
 #[derive(Clone, Copy)]
@@ -21,14 +21,6 @@ fn trials_decide(ring: Ring, pace: Pace, stays: &[Stay])
     ensures worked { Worked }
     ensures decided { Decided ring.ticks pace.p pace.q stays.now }
 {}
-
-// Tries the list in its own order.
-fn try_list(heap: Global, ring: Ring, pace: Pace, stays: &[Stay]) -> Result<Seating, NoSeating>
-    ensures { Answers ring.ticks pace.p pace.q stays.now (order_of_list stays.now) result }
-{
-    let order = own_order(heap, stays.len())?;
-    try_order(heap, ring, pace.into(), stays, &order)
-}
 
 // The first closing trial, begun again at the list's first.
 fn begin_at_first(ring: Ring, pace: Pace, stays: &[Stay], seating: &mut Seating)
@@ -60,7 +52,8 @@ impl Seater for ListOrder {
         if stays.len() > 64 {
             return Err(NotSeated::NotTaken);
         }
-        let mut seating = try_list(heap, ring, pace, stays)?;
+        let order = own_order(heap, stays.len())?;
+        let mut seating = try_order(heap, ring, pace.into(), stays, &order)?;
         begin_at_first(ring, pace, stays, &mut seating);
         *place = seating;
         Ok(())

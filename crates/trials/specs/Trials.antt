@@ -96,7 +96,7 @@ Answers C p q l os (Err OutOfBounds) = InBounds C l → ⊥
 Answers C p q l os (Err NotAnOrder) = InBounds C l × (Order (length l) os → ⊥)
 Answers C p q l os (Err NoneCloses) =
     InBounds C l × Order (length l) os × ((ts : List ℕ) → Seated C p q l (planned os ts) → ⊥)
-Answers C p q l os (Err NoMemory) = Unit {0}
+Answers C p q l os (Err NoMemory) = InBounds C l × Order (length l) os
 Answers C p q l os (Ok s) =
     InBounds C l × Order (length l) os × Given C p q l os (plan s) × Seated C p q l (plan s)
 

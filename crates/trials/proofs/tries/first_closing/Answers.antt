@@ -1,4 +1,4 @@
-use Rattle.std.proofs.Common.{◌≡◌, ℕ, ◌+◌, ◌%◌, ◌^◌, ◌<◌, ◌≤◌, true, false, [], ◌∷◌, ◌++◌, length, get_or, vec_items, sym, refl, subst, arith, rules}
+use Rattle.std.proofs.Common.{◌≡◌, ℕ, ◌+◌, ◌%◌, ◌^◌, ◌<◌, ◌≤◌, [], ◌∷◌, ◌++◌, length, get_or, vec_items, sym, refl, subst, arith, rules, true≢false}
 use native.Mathlib.Decide.{dec_lt}
 use Rattle.placement.specs.Stays.{Apart, no_stay}
 use Rattle.placement.specs.Seatings.{turned}
@@ -11,9 +11,6 @@ use Rattle.trials.proofs.tries.first_closing.Goals.{in_default, in-Some+in_ok-pu
 
 one_more : (P : ℕ → Type 0) (m n t : ℕ) → t ≡ m → n ≡ t + 1 → ((u : ℕ) → u < m → P u) → P t → (u : ℕ) → u < n → P u
 one_more P m n t at on before here u h = elim (dec_lt u m) [ yes b ↦ before u b | no b ↦ subst P (omega (arith, at, on, h, b)) here ]
-
-never : false ≡ true → ⊥
-never e = let z : ◌≡◌ {A = ℕ} 0 1 = cc in omega arith
 
 -- A follower that has no time of 64 bits.
 pub trials-preserved-in_default-next_time : goal.trials-preserved-in_default-next_time
@@ -104,7 +101,7 @@ trials-preserved c =
     let w = whole_trial C p q l t c.followers.k os (vec_items c.followers.times) c.followers.last c.followers.at (omega arith) c.followers-test.false v.1 v.2 v.3 in (
       omega (arith, on, end, below),
       end,
-      one_more _ _ _ _ at on c.trials.invariant.2 (open_fails C p q l (turned t os) (vec_items c.followers.times) w.0 (λ k. never (c.if-is_apart.ensures.1 (subst P (sym c.ticks.ensures) (w.2 k))))),
+      one_more _ _ _ _ at on c.trials.invariant.2 (open_fails C p q l (turned t os) (vec_items c.followers.times) w.0 (λ k. true≢false (sym (c.if-is_apart.ensures.1 (subst P (sym c.ticks.ensures) (w.2 k)))))),
     )
 
 pub returns : goal.returns
