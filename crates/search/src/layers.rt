@@ -61,12 +61,12 @@ impl<'a> Start<'a> {
     }
 
     // The layer after the last.
-    fn layer(self, arena: &mut Arena) -> Result<(), AllocError>
+    fn layer(self, heap: Global, arena: &mut Arena) -> Result<(), AllocError>
         requires { of_task Sound self.task (length arena.old.partials.items) arena.old.partials.items }
         ensures { OnOk result ((arena.new.layer ≡ length arena.old.partials.items) × of_task Layered self.entry.task self.entry.room arena.old.layer (length arena.old.partials.items) arena.old.partials.items arena.new.partials.items) }
     {
         let lo = arena.layer;
-        arena.begin_layer();
+        arena.begin_layer(heap);
         // by index, since the arena grows meanwhile
         for i in lo..arena.layer {
             let a = arena.partials[i];
@@ -78,13 +78,13 @@ impl<'a> Start<'a> {
     }
 
     // Grows one partial seating by a layer for each stay more.
-    fn grow(self, arena: &mut Arena, root: Partial) -> Result<(), AllocError>
+    fn grow(self, heap: Global, arena: &mut Arena, root: Partial) -> Result<(), AllocError>
         ensures { OnOk result (of_task Grown self.entry.task self.entry.room (length self.entry.task.stays.now) arena.new.layer (root ∷ []) arena.new.partials.items) }
     {
-        arena.restart(root)?;
+        arena.restart(heap, root)?;
         // the proof counts the stays seated by _k
         for _k in 1..self.task.stays.len() {
-            self.layer(arena)?;
+            self.layer(heap, arena)?;
         }
         Ok(())
     }
@@ -121,7 +121,7 @@ pub fn from_start(
     let Some(room) = task.room_of(first) else {
         return Ok(None);
     };
-    Start { task, room }.grow(arena, root(task, first, t))?;
+    Start { task, room }.grow(heap, arena, root(task, first, t))?;
     match arena.find_full(task.stays.len(), room) {
         None => Ok(None),
         Some(i) => Ok(Some(arena.read_back(heap, i)?)),

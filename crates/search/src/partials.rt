@@ -1,5 +1,5 @@
 ghost use Rattle.std.specs.Prelude.{◌≡◌, ℕ, ◌<◌, ◌≤◌, [], ◌∷◌, length, IfOk, MatchOption, OnOk};
-ghost use Rattle.std.specs.HashMap.{get};
+ghost use Rattle.std.specs.HashMap.{IsEmpty, get};
 ghost use Rattle.placement.specs.Seatings.{plan};
 ghost use Rattle.ring.specs.Questions.{Tells};
 ghost use Rattle.search.specs.Partials.{Full, Kept, Placed, Reads, nth, same_set};
@@ -31,6 +31,18 @@ impl Partial {
     }
 }
 
+// Clearing a map takes as long as it has room. So one with room for far more than it holds is let go, or
+// each layer would take as long as the largest before it.
+fn empty(places: &mut HashMap<StaySet, usize>, heap: Global)
+    ensures { IsEmpty places.new }
+{
+    if places.capacity() / 64 > places.len() {
+        *places = HashMap::new(heap);
+    } else if !places.is_empty() {
+        places.clear();
+    }
+}
+
 // The partial seatings so far, layer after layer, where the last layer begins, and the place of each
 // of that layer by its set.
 #[derive(Drop)]
@@ -53,20 +65,20 @@ impl Arena {
     }
 
     // Begun again with one partial seating.
-    pub fn restart(&mut self, root: Partial) -> Result<(), AllocError>
+    pub fn restart(&mut self, heap: Global, root: Partial) -> Result<(), AllocError>
         ensures { OnOk result ((self.new.partials.items ≡ root ∷ []) × (self.new.layer ≡ 0)) }
     {
         self.partials.clear();
         self.layer = 0;
-        self.places.clear();
+        empty(&mut self.places, heap);
         self.keep(root)
     }
 
-    pub fn begin_layer(&mut self)
+    pub fn begin_layer(&mut self, heap: Global)
         ensures same { self.new.partials.items ≡ self.old.partials.items }
         ensures layer { self.new.layer ≡ length self.old.partials.items }
     {
-        self.places.clear();
+        empty(&mut self.places, heap);
         self.layer = self.partials.len();
     }
 

@@ -32,8 +32,7 @@ returns-then-a-index-clause-kept c =
     let e : get same_set s.places c.args.a.set ≡ Some c.in-Some.x = sym c.find.ensures ∙ c.in-Some.is in
     let r = s.placed.found c.args.a.set c.in-Some.x e in
     let is : c.index.result.now ≡ nth (vec_items s.partials) c.in-Some.x = get_or_read (vec_items s.partials) c.in-Some.x c.index.result.now r.1 c.index.ensures no_partial in
-    let P : Partial → Type 0 = λ v. c.args.a.end < v.end in
-    inr (c.in-Some.x, r.0, r.1, r.2, inr (refl, subst P is c.if-a-index.true))
+    inr (c.in-Some.x, r.0, r.1, r.2, inr (refl, omega (arith, c.if-a-index.true, ap (λ (v : Partial). v.end) is)))
 
 pub returns-else-a-index-clause-kept : goal.returns-else-a-index-clause-kept
 returns-else-a-index-clause-kept c =
@@ -41,8 +40,7 @@ returns-else-a-index-clause-kept c =
     let e : get same_set s.places c.args.a.set ≡ Some c.in-Some.x = sym c.find.ensures ∙ c.in-Some.is in
     let r = s.placed.found c.args.a.set c.in-Some.x e in
     let is : c.index.result.now ≡ nth (vec_items s.partials) c.in-Some.x = get_or_read (vec_items s.partials) c.in-Some.x c.index.result.now r.1 c.index.ensures no_partial in
-    let P : Partial → Type 0 = λ v. v.end ≤ c.args.a.end in
-    inr (c.in-Some.x, r.0, r.1, r.2, inl (refl, subst P is c.if-a-index.false))
+    inr (c.in-Some.x, r.0, r.1, r.2, inl (refl, omega (arith, c.if-a-index.false, ap (λ (v : Partial). v.end) is)))
 
 -- What is not put into the map leaves it as it was.
 pub invariant_of-self-in-Break-branch-2 : goal.invariant_of-self-in-Break-branch-2
