@@ -15,6 +15,10 @@ mod_is C k d n h e = rw e (digits_mod k h)
 pub same_mod : (R a b m : ℕ) → a % R ≡ b % R → (a + m) % R ≡ (b + m) % R
 same_mod R a b m e = sym (mod-add-mod a R m) ∙ ap (λ v. (v + m) % R) e ∙ mod-add-mod b R m
 
+-- A time lies where the same time lies that was brought below the ring first.
+pub offset_below : (C : ℕ) (w : Window) (x : ℕ) → (x % C + (C - w.from)) % C ≡ offset C w x
+offset_below C w x = mod-add-mod x C (C - w.from)
+
 module _ (C : ℕ) (w : Window) where
   -- A later time lies as much further, up to the ring's end.
   offset_plus : (x j : ℕ) → offset C w x + j < C → offset C w (x + j) ≡ offset C w x + j

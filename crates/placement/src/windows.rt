@@ -14,12 +14,15 @@ pub struct Window {
 
 impl Window {
     // How far round the ring a time lies past the window's first position.
+    #[tactic(auto, using(crate::proofs::Offsets::offset_below))]
     pub fn offset(&self, ring: Ring, time: u64) -> u32
         ensures value { result ≡ offset ring.ticks self.now time }
         ensures small { result < ring.ticks }
     {
-        let back = ring.ticks().saturating_sub(self.from);
-        ((time as u128 + back as u128) % (ring.ticks() as u128)) as u32
+        let ticks = ring.ticks();
+        let back = ticks.saturating_sub(self.from);
+        // below a ring first, where 32 bits hold the sum: a remainder of 128 bits takes far longer
+        ((time % ticks as u64) as u32 + back) % ticks
     }
 
     pub fn holds(&self, ring: Ring, time: u64) -> bool

@@ -14,7 +14,7 @@ fn gap(ratio: Ratio, a: &Stay, b: &Stay) -> u128
 {
     let p = ratio.over() as u128;
     let q = ratio.under() as u128;
-    // div_ceil divides twice, and a leeway of 64 stays takes a quarter longer
+    // div_ceil divides twice, and a leeway of 64 stays takes a tenth longer
     (p * (a.trail as u128 + b.lead as u128) + (q - 1)) / q
 }
 
