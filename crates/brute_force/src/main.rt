@@ -19,6 +19,7 @@ use layers::{Layer, expect};
 use placement::own_order;
 use ratios::{expect_leeway, leeway_agrees};
 use seaters::{Depot, ListOrder, Margin, Seater};
+use std::alloc::AllocError;
 use std::fmt;
 
 const SEED: u64 = 20_113;
@@ -91,7 +92,7 @@ impl Comparison<'_> {
         requires { F.IsAlwaysCallable seater }
     {
         let Comparison { rt, rule, cases } = self;
-        let compared = compare(rt.alloc(), rule, layers, seater, cases)?;
+        let compared = compare(rt.alloc(), rule, layers, seater, cases).map_err(|_| AllocError)?;
         println!(rt; "{rule}{name}: {}", compared.tally)?;
         if let Some(found) = &compared.first {
             print_disagreement(rt, cases, found)?;
@@ -142,7 +143,7 @@ fn added(counts: &[u64]) -> u64 {
 fn print_length(rt: &HostRuntime, rule: Rule, cases: &[Case], n: usize) -> anyhow::Result<()> {
     let mut tally = Tally::default();
     for case in cases.iter().filter(|case| case.stays.len() == n) {
-        tally.add(answered(expect(rt.alloc(), rule, &[], case))?);
+        tally.add(answered(expect(rt.alloc(), rule, &[], case)).map_err(|_| AllocError)?);
     }
     println!(rt; "lists of {n}, {rule} by the rules: {tally}")?;
     Ok(())

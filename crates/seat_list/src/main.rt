@@ -9,6 +9,7 @@ use placement::{Seating, Stay, Window, own_order};
 use ring::{Fault, at_record};
 use round_file::{Header, Listing, Record};
 use seaters::{ListOrder, NotSeated, Seater};
+use std::alloc::AllocError;
 use std::io;
 use std::io::Read;
 use trials::{Attempt, trial};
@@ -114,7 +115,7 @@ impl Jobs<'_> {
             Err(NotSeated::NoneGranted) => {
                 println!(rt; "none: the jobs have no seating in this order")?
             }
-            Err(NotSeated::NoMemory) => return Err(NotSeated::NoMemory.into()),
+            Err(NotSeated::NoMemory) => return Err(AllocError.into()),
         }
         Ok(())
     }

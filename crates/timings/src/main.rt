@@ -21,13 +21,13 @@ fn word(
     pace: Pace,
     stays: &[Stay],
     answer: Result<Seating, NotFound>,
-) -> Result<&'static str, NotFound> {
+) -> Result<&'static str, AllocError> {
     match answer {
         Ok(seating) if seating.lawful(ring, pace, stays) => Ok("fits"),
         Ok(_) => Ok("seated against the rules"),
         Err(NotFound::TooMany | NotFound::OutOfBounds) => Ok("not taken"),
         Err(NotFound::NoneLawful) => Ok("does not fit"),
-        Err(NotFound::NoMemory) => Err(NotFound::NoMemory),
+        Err(NotFound::NoMemory) => Err(AllocError),
     }
 }
 
@@ -89,7 +89,7 @@ fn run_leeway(rt: &HostRuntime, times: bool) -> anyhow::Result<()> {
     let took = start.elapsed(rt)?.as_micros();
     let word = match tried {
         Ok(_) => "fits",
-        Err(no @ NoSeating::NoMemory) => return Err(no.into()),
+        Err(NoSeating::NoMemory) => return Err(AllocError.into()),
         Err(_) => "does not fit",
     };
     print_answer(
